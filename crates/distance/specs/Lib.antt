@@ -1,0 +1,3 @@
+-- What the contracts of `distance` cite.
+pub mod Distance
+pub mod TotalOrder

@@ -1,0 +1,83 @@
+// Numbers of the plane: the rounded squared distance, the bounds of a box, a test of finite, and a key whose order
+// is IEEE 754's totalOrder. Every operation is rounded once; nothing here asks that a number be in a range.
+ghost use mathlib.Core.Path.{_≡_};
+ghost use mathlib.Core.Bool.{not};
+ghost use lib.Dec.{T};
+ghost use lib.Ieee.{isNan};
+ghost use lib.Ieee.Scale.{finite};
+ghost use Rattle.distance.specs.Distance.{d2, clamp, bound, centre};
+ghost use Rattle.distance.specs.TotalOrder.{key};
+
+// A place: a point of the map, or where a query stands.
+pub struct Coord {
+    pub x: f64,
+    pub y: f64,
+}
+
+// What a node says of the points under it: their centre, and the box that they lie in.
+pub struct Bounds {
+    pub cx: f64,
+    pub cy: f64,
+    pub min_x: f64,
+    pub max_x: f64,
+    pub min_y: f64,
+    pub max_y: f64,
+}
+
+// The squared distance of two places.
+pub fn coord_distance_sq(a: Coord, b: Coord) -> f64
+    ensures { λ r. ⌜ r ≡ d2 (a .x) (a .y) (b .x) (b .y) ⌝ }
+{
+    let dx = a.x - b.x;
+    let dy = a.y - b.y;
+    dx * dx + dy * dy
+}
+
+// The number of low to high that is nearest to q.
+fn clamp(q: f64, low: f64, high: f64) -> f64
+    ensures { λ r. ⌜ r ≡ clamp q low high ⌝ }
+{
+    if q < low {
+        low
+    } else if high < q {
+        high
+    } else {
+        q
+    }
+}
+
+// The squared distance from q to the nearest place of the box: never above that of a point in it.
+pub fn box_bound(q: Coord, b: Bounds) -> f64
+    ensures { λ r. ⌜ r ≡ bound q b ⌝ }
+{
+    let x = clamp(q.x, b.min_x, b.max_x);
+    let y = clamp(q.y, b.min_y, b.max_y);
+    coord_distance_sq(q, Coord { x, y })
+}
+
+// The squared distance from q to the centre, by which the nearer child is chosen.
+pub fn centre_distance_sq(q: Coord, b: Bounds) -> f64
+    ensures { λ r. ⌜ r ≡ centre q b ⌝ }
+{
+    coord_distance_sq(q, Coord { x: b.cx, y: b.cy })
+}
+
+// Neither a NaN nor an infinity.
+pub fn is_finite(x: f64) -> bool
+    ensures { λ r. ⌜ r ≡ finite x ⌝ }
+{
+    x * 0.0 == 0.0
+}
+
+// A number whose order is totalOrder's. An inner function: its callers have tested that x is no NaN.
+pub fn total_key(x: f64) -> u64
+    requires { ⌜ T (not (isNan x)) ⌝ }
+    ensures { λ r. ⌜ r ≡ key x ⌝ }
+{
+    let b = f64::to_bits(x);
+    if b >= 0x8000_0000_0000_0000 {
+        0xffff_ffff_ffff_ffff - b
+    } else {
+        b + 0x8000_0000_0000_0000
+    }
+}
