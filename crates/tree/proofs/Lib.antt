@@ -1,0 +1,3 @@
+-- Laws that the function proofs and the layers above cite.
+pub mod ChildNumbers
+pub mod Counting

@@ -1,0 +1,26 @@
+use borrow.Author.Tests.{lt-ltb, le-ltb, le-leb, lt-leb, eq-eqb, ne-eqb}
+use Rattle.tree.proofs.ChildNumbers.{zero-some, some-zero, some-some}
+use mathlib.Core.Path.{_≡_, refl, sym, ap, _∙_, subst}
+use borrow.Author.Needs.{needs}
+use Rattle.tree.proofs.children.Statement.{statement}
+use Rattle.tree.proofs.children.Tie as tie
+use Rattle.tree.proofs.children.Reads as reads
+use Rattle.tree.proofs.children.Lts as lts
+
+returns : tie.Need-returns
+returns c = search needs
+
+returns-2 : tie.Need-returns-2
+returns-2 c = sym (zero-some _ _ _ (c .before .if1 .taken) (c .if2 .left))
+
+returns-3 : tie.Need-returns-3
+returns-3 c = sym (some-zero _ _ _ (c .before .if1 .left) (c .if3 .taken))
+
+returns-4 : tie.Need-returns-4
+returns-4 c = rw (some-some _ _ _ (c .before .before .if1 .left) (c .before .if3 .left), lt-ltb _ _ (c .if4 .taken))
+
+returns-5 : tie.Need-returns-5
+returns-5 c = rw (some-some _ _ _ (c .before .before .if1 .left) (c .before .if3 .left), le-ltb _ _ (c .if4 .left))
+
+pub children-spec : {M : Type 1} → statement M
+children-spec = tie.close (tie.spec returns returns-2 returns-3 returns-4 returns-5)

@@ -1,0 +1,5 @@
+-- What the contracts of `tree`, and of all that stands on a tree, cite.
+pub mod Points
+pub mod Node
+pub mod Count
+pub mod Accepted

@@ -1,0 +1,98 @@
+// A tree over points, in slices that the caller lends: six floats a node in `boxes` (centre x, centre y, min x, max x,
+// min y, max y), four numbers a node in `links` (start, end, left, right), and the points' indices. Here a node is read,
+// and the indices under it are handed back; nothing is asked of the slices, whoever made them.
+use distance::Bounds;
+ghost use mathlib.Core.Path.{_≡_};
+ghost use Prim.Native.Nat.{ℕ, _+_, _-_, _*_, _/_, _<_, _≤_};
+ghost use lib.ListN.{getD};
+ghost use lib.Ieee.{nan};
+ghost use Rattle.tree.specs.Node.{bounds, children, kind, part};
+ghost use Rattle.tree.specs.Count.{nodes};
+
+// What a node is: a leaf, a branch with its two children, or damage.
+pub enum Kind {
+    Leaf,
+    Branch(u32, u32),
+    Damaged,
+}
+
+// The float at i; a NaN past the end.
+fn float_at(s: &[f64], i: usize) -> f64
+    ensures { λ r. ⌜ r ≡ getD (now (s .entry)) i nan ⌝ }
+{
+    if i < s.len() { s[i] } else { 0.0 / 0.0 }
+}
+
+// The centre and the box of a node, NaN where it is not whole in the slice.
+pub fn bounds_at(boxes: &[f64], node: u32) -> Bounds
+    ensures { λ r. ⌜ r ≡ bounds (now (boxes .entry)) node ⌝ }
+{
+    let b = node as usize * 6;
+    Bounds {
+        cx: float_at(boxes, b),
+        cy: float_at(boxes, b + 1),
+        min_x: float_at(boxes, b + 2),
+        max_x: float_at(boxes, b + 3),
+        min_y: float_at(boxes, b + 4),
+        max_y: float_at(boxes, b + 5),
+    }
+}
+
+// What the children of a node over so many entries make it.
+fn children(size: usize, left: u32, right: u32) -> Kind
+    ensures { λ r. ⌜ r ≡ children size left right ⌝ }
+{
+    if left == 0 {
+        if right == 0 {
+            Kind::Leaf
+        } else {
+            Kind::Damaged
+        }
+    } else if right == 0 {
+        Kind::Damaged
+    } else if size > 1 {
+        Kind::Branch(left, right)
+    } else {
+        Kind::Damaged
+    }
+}
+
+// Node `node`, at the place where the halving calls for a node over start to end.
+pub fn kind_at(boxes: &[f64], links: &[u32], node: u32, start: usize, end: usize) -> Kind
+    ensures { λ r. ⌜ r ≡ kind (now (boxes .entry)) (now (links .entry)) node start end ⌝ }
+{
+    let v = node as usize;
+    if v * 6 + 6 > boxes.len() {
+        return Kind::Damaged;
+    }
+    if v * 4 + 4 > links.len() {
+        return Kind::Damaged;
+    }
+    if links[v * 4] as usize != start {
+        return Kind::Damaged;
+    }
+    if links[v * 4 + 1] as usize != end {
+        return Kind::Damaged;
+    }
+    children(size_of(start, end), links[v * 4 + 2], links[v * 4 + 3])
+}
+
+// How many entries there are from start to end.
+fn size_of(start: usize, end: usize) -> usize
+    ensures { λ r. ⌜ r ≡ end - start ⌝ }
+{
+    if start < end { end - start } else { 0 }
+}
+
+// The indices under a node: that part of the caller's own slice, or an empty one where it does not lie in it.
+pub fn part_of<'a>(indices: &'a [u32], start: usize, end: usize) -> &'a [u32]
+    ensures { λ r. ⌜ now r ≡ part (now (indices .entry)) start end ⌝ }
+{
+    if start > end {
+        return &indices[0..0];
+    }
+    if end > indices.len() {
+        return &indices[0..0];
+    }
+    &indices[start..end]
+}
