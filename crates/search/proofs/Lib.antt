@@ -1,0 +1,8 @@
+-- Laws that every query cites.
+pub mod Fold
+pub mod Whole
+pub mod Alike
+pub mod Insert
+pub mod Rank
+pub mod Own
+pub mod Steps

@@ -1,0 +1,4 @@
+-- What the contracts of the queries cite.
+pub mod Walk
+pub mod Order
+pub mod Refusal

@@ -1,0 +1,52 @@
+// What the three queries share: the order of two points by distance, the first tests of a query, and what a refusal by
+// damage leaves. The walk itself, and the law that over an accepted tree it answers as a plain scan, are in specs/ and proofs/.
+use distance::Coord;
+ghost use mathlib.Core.Path.{_≡_};
+ghost use Prim.Native.Nat.{_+_, _<_, _≤_};
+ghost use lib.ListN.{length, replicate};
+ghost use Rattle.search.specs.Order.{best, before};
+ghost use Rattle.search.specs.Refusal.{refusal};
+
+// A point that a query holds: its squared distance and its index.
+pub struct Best {
+    pub d2: f64,
+    pub index: u32,
+}
+
+// What a query that fills slices answers: how many hits it wrote, or the number and the detail of its refusal.
+pub enum Found {
+    Hits(u32),
+    Refused(u32, u32),
+}
+
+// (da, a) stands before (db, b): by squared distance, then by index.
+pub fn before(da: f64, a: u32, db: f64, b: u32) -> bool
+    ensures { λ r. ⌜ r ≡ before (best da a) (best db b) ⌝ }
+{
+    if da < db {
+        return true;
+    }
+    if da == db {
+        return a < b;
+    }
+    false
+}
+
+// The first of 1, 2 and 4 that applies to a query at q over these points; 0 where none does.
+pub fn refusal(points: &[f64], q: Coord) -> u32
+    ensures { λ r. ⌜ r ≡ refusal (now (points .entry)) q ⌝ }
+{
+    if points.len() % 2 == 1 {
+        return 1;
+    }
+    if points.len() / 2 > 1_048_576 {
+        return 2;
+    }
+    if !distance::is_finite(q.x) {
+        return 4;
+    }
+    if !distance::is_finite(q.y) {
+        return 4;
+    }
+    0
+}
