@@ -11,7 +11,9 @@ use lib.Ieee.{Float, nan, inf, fin, binary64, up, down, round, sub, le, lt, eq}
 use lib.Ieee.Fits.{down-pos, and-l, and-r}
 use lib.Ieee.Order.{round-mono}
 use lib.Ieee.Scale.{finite}
-use Rattle.distance.specs.Distance.{sq, d2, clamp}
+use Rattle.distance.specs.declared.Coord.{Coord}
+use Rattle.distance.specs.declared.Bounds.{Bounds}
+use Rattle.distance.specs.Distance.{sq, d2, clamp, bound}
 use Rattle.distance.proofs.Sign.{plus, less, den, apart, gap, sq-sub}
 use Rattle.distance.proofs.Mono.{nonneg, round-nonneg, sq-mono, add-mono, sq-sub-nonneg, or-split}
 
@@ -142,3 +144,11 @@ box-bound qx qy px py lox loy hix hiy x y =
     (sq-sub-nonneg qx cx (x .q-finite) fx) (sq-sub-nonneg qy cy (y .q-finite) fy) (sq-sub-nonneg qx px (x .q-finite) (x .p-finite)) (sq-sub-nonneg qy py (y .q-finite) (y .p-finite))
     (clamp-near qx px lox hix (x .q-finite) (x .p-finite) (x .lo-finite) (x .hi-finite) (x .above-lo) (x .below-hi))
     (clamp-near qy py loy hiy (y .q-finite) (y .p-finite) (y .lo-finite) (y .hi-finite) (y .above-lo) (y .below-hi))
+
+-- a finite query, and a finite place in the box, whose ends are finite
+pub record InBox (q : Coord) (b : Bounds) (px py : Float) : Type 0 where
+  pub on-x : Axis (q .x) px (b .«min_x») (b .«max_x»)
+  pub on-y : Axis (q .y) py (b .«min_y») (b .«max_y»)
+
+pub bound-le-d2 : (q : Coord) (b : Bounds) (px py : Float) → InBox q b px py → T (le (bound q b) (d2 (q .x) (q .y) px py))
+bound-le-d2 q b px py i = box-bound (q .x) (q .y) px py (b .«min_x») (b .«min_y») (b .«max_x») (b .«max_y») (i .on-x) (i .on-y)
