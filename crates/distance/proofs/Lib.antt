@@ -4,6 +4,7 @@ pub mod Mono
 pub mod Box
 pub mod Order
 pub mod Prune
+pub mod Corner
 pub mod Same
 pub mod Squares
 pub mod TotalKey

@@ -1,16 +1,18 @@
--- A rounded value but for its sign, its square, and the square of a difference. Assumes nothing.
-use mathlib.Core.Path.{_≡_, refl, sym, ap, _∙_, subst}
+-- The square of a rounded difference depends on the size of the difference alone: sq (x - y), as rounded, is the
+-- square of |x - y| rounded (`sq-sub`). Rounding is symmetric about zero (`round-neg`) and a square forgets the sign,
+-- so each of the sign cases of a difference comes to one fraction of whole numbers, `gap x y / (den x * den y)`,
+-- about which the later files argue with no sign left. Assumes nothing.
+use mathlib.Core.Path.{_≡_, refl, ap, _∙_}
+use mathlib.Core.Bool.{Bool, true, false, not, _&&_, Bool·beq, cond}
 use Prim.Native.Nat.{ℕ, zero, suc, _+_, _-_, _*_, _^_, _≤_, _<_}
-use native.Mathlib.Nat.{mul-comm}
 use native.Mathlib.Omega.{arith}
-use mathlib.Core.Bool.{Bool, true, false, not, _&&_, _||_, Bool·beq, cond}
-use lib.IntN.{ℤ, pos}
 use lib.Dec.{T, ltb, ltb→lt, nltb→le}
-use lib.Ieee.{Float, nan, inf, fin, Format, binary64, prec, emax, low, up, down, minus, odd, units, round, neg, sum, add, sub, mul}
-use lib.Ieee.Fits.{round-is}
+use lib.IntN.{ℤ}
+use lib.Ieee.{Float, nan, inf, fin, Format, binary64, prec, emax, low, up, down, odd, units, round, neg, sum, sub, mul}
 use lib.Ieee.Scale.{finite}
-use Rattle.distance.specs.Distance.{sq, d2}
+use Rattle.distance.specs.Distance.{sq}
 
+-- ---- rounding is symmetric about zero
 odd-neg : (d : ℕ) (q k l : ℕ) → odd d true q k l ≡ neg (odd d false q k l)
 unfolding odd neg
 odd-neg d zero k l = refl
@@ -29,6 +31,7 @@ pub round-neg : (f : Format) (a c : ℕ) → round f true a c ≡ neg (round f f
 unfolding round
 round-neg f a c = units-neg f _ _
 
+-- ---- a square forgets the sign
 sq-neg : (x : Float) → sq (neg x) ≡ sq x
 unfolding sq mul neg
 sq-neg nan = refl
@@ -49,27 +52,33 @@ apart a b = (a - b) + (b - a)
 abbrev pub size-of-sum : Bool → ℕ → Bool → ℕ → ℕ
 size-of-sum s a t b = cond (Bool·beq s t) (a + b) (apart a b)
 
-to-apart : (a b : ℕ) → b ≤ a → a - b ≡ apart a b
-to-apart a b h = omega arith
+-- the square of a / c, rounded
+abbrev sq-of : ℕ → ℕ → Float
+sq-of a c = sq (round binary64 false a c)
 
-to-apart' : (a b : ℕ) → a < b → b - a ≡ apart a b
-to-apart' a b h = omega arith
-
-unlike-sum : (s t : Bool) (a b c : ℕ) → sq (cond (ltb a b) (round binary64 t (b - a) c) (round binary64 (s && ltb b a) (a - b) c)) ≡ sq (round binary64 false (apart a b) c)
+unlike-sum : (s t : Bool) (a b c : ℕ)
+    → sq (cond (ltb a b) (round binary64 t (b - a) c) (round binary64 (s && ltb b a) (a - b) c)) ≡ sq-of (apart a b) c
 unlike-sum s t a b c = go (ltb a b) (ltb→lt a b) (nltb→le a b)
   where
-    go : (z : Bool) → (T z → a < b) → (T (not z) → b ≤ a) → sq (cond z (round binary64 t (b - a) c) (round binary64 (s && ltb b a) (a - b) c)) ≡ sq (round binary64 false (apart a b) c)
-    go true h k = sq-round t (b - a) c ∙ ap (λ (x : ℕ). sq (round binary64 false x c)) (to-apart' a b (h tt))
-    go false h k = sq-round (s && ltb b a) (a - b) c ∙ ap (λ (x : ℕ). sq (round binary64 false x c)) (to-apart a b (k tt))
+    from-above : b ≤ a → a - b ≡ apart a b
+    from-above h = omega arith
 
-pub sq-sum : (s : Bool) (a : ℕ) (t : Bool) (b c : ℕ) → sq (sum binary64 s a t b c) ≡ sq (round binary64 false (size-of-sum s a t b) c)
+    from-below : a < b → b - a ≡ apart a b
+    from-below h = omega arith
+
+    go : (z : Bool) → (T z → a < b) → (T (not z) → b ≤ a)
+        → sq (cond z (round binary64 t (b - a) c) (round binary64 (s && ltb b a) (a - b) c)) ≡ sq-of (apart a b) c
+    go true h k = sq-round t (b - a) c ∙ ap (λ (x : ℕ). sq-of x c) (from-below (h tt))
+    go false h k = sq-round (s && ltb b a) (a - b) c ∙ ap (λ (x : ℕ). sq-of x c) (from-above (k tt))
+
+pub sq-sum : (s : Bool) (a : ℕ) (t : Bool) (b c : ℕ) → sq (sum binary64 s a t b c) ≡ sq-of (size-of-sum s a t b) c
 unfolding sum
 sq-sum true a true b c = sq-round true (a + b) c
 sq-sum false a false b c = refl
 sq-sum true a false b c = unlike-sum true false a b c
 sq-sum false a true b c = unlike-sum false true a b c
 
--- A finite value is (plus x - minus' x) / den x.
+-- ---- a finite value is (plus x - less x) / den x, of whole numbers
 abbrev pub plus : Float → ℕ
 plus nan = 0
 plus (inf s) = 0
@@ -85,15 +94,27 @@ den nan = 1
 den (inf s) = 1
 den (fin s m e) = down e
 
+-- |x - y| is gap x y / (den x * den y)
 abbrev pub gap : Float → Float → ℕ
 gap x y = apart (plus x * den y + less y * den x) (plus y * den x + less x * den y)
 
-gap-is : (s t : Bool) (m n : ℕ) (e d : ℤ) → size-of-sum s (m * up e * down d) (not t) (n * up d * down e) ≡ gap (fin s m e) (fin t n d)
+-- |x - y|, rounded once
+abbrev pub rounded-gap : Float → Float → Float
+rounded-gap x y = round binary64 false (gap x y) (den x * den y)
+
+-- what d2 adds up, one for each axis
+abbrev pub leg : Float → Float → Float
+leg x y = sq (sub binary64 x y)
+
+gap-is : (s t : Bool) (m n : ℕ) (e d : ℤ)
+    → size-of-sum s (m * up e * down d) (not t) (n * up d * down e) ≡ gap (fin s m e) (fin t n d)
 gap-is true true m n e d = omega arith
 gap-is true false m n e d = omega arith
 gap-is false true m n e d = omega arith
 gap-is false false m n e d = omega arith
 
-pub sq-sub : (x y : Float) → T (finite x) → T (finite y) → sq (sub binary64 x y) ≡ sq (round binary64 false (gap x y) (den x * den y))
+pub sq-sub : (x y : Float) → T (finite x) → T (finite y) → leg x y ≡ sq (rounded-gap x y)
 unfolding sub
-sq-sub (fin s m e) (fin t n d) p q = sq-sum s (m * up e * down d) (not t) (n * up d * down e) (down e * down d) ∙ ap (λ (z : ℕ). sq (round binary64 false z (down e * down d))) (gap-is s t m n e d)
+sq-sub (fin s m e) (fin t n d) p q =
+    sq-sum s (m * up e * down d) (not t) (n * up d * down e) (down e * down d)
+    ∙ ap (λ (z : ℕ). sq-of z (down e * down d)) (gap-is s t m n e d)

@@ -5,7 +5,7 @@ ghost use mathlib.Core.Bool.{not};
 ghost use lib.Dec.{T};
 ghost use lib.Ieee.{isNan};
 ghost use lib.Ieee.Scale.{finite};
-ghost use Rattle.distance.specs.Distance.{d2, clamp, bound, centre};
+ghost use Rattle.distance.specs.Distance.{d2, clamp, far, bound, corner, centre};
 ghost use Rattle.distance.specs.TotalOrder.{key};
 
 // A place: a point of the map, or where a query stands.
@@ -53,6 +53,26 @@ pub fn box_bound(q: Coord, b: Bounds) -> f64
     let x = clamp(q.x, b.min_x, b.max_x);
     let y = clamp(q.y, b.min_y, b.max_y);
     coord_distance_sq(q, Coord { x, y })
+}
+
+// The square of the distance from q to the farther end of low to high.
+fn far_end_sq(q: f64, low: f64, high: f64) -> f64
+    ensures { λ r. ⌜ r ≡ far q low high ⌝ }
+{
+    let a = q - low;
+    let b = q - high;
+    let to_low = a * a;
+    let to_high = b * b;
+    if to_low < to_high { to_high } else { to_low }
+}
+
+// The squared distance from q to the farthest corner of the box: never below that of a point in it.
+pub fn far_corner(q: Coord, b: Bounds) -> f64
+    ensures { λ r. ⌜ r ≡ corner q b ⌝ }
+{
+    let x = far_end_sq(q.x, b.min_x, b.max_x);
+    let y = far_end_sq(q.y, b.min_y, b.max_y);
+    x + y
 }
 
 // The squared distance from q to the centre, by which the nearer child is chosen.
