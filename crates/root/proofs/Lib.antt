@@ -1,0 +1,7 @@
+mod Digits
+mod Scaling
+mod Patterns
+mod Halfway
+mod Floats
+pub mod Unique
+pub mod Worked

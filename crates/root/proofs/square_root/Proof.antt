@@ -1,0 +1,50 @@
+-- `root::square_root` meets its contract: a NaN, the two zeros and the infinity by computation, and the rest by the pattern (`Floats.antt`). Assumes nothing.
+use mathlib.Core.Path.{_≡_, refl, sym, ap, _∙_, subst}
+use lib.Dec.{T}
+use lib.Ieee.{Float, binary64, fits, toBits}
+use Rattle.root.specs.Root.{Root}
+use Rattle.root.proofs.Floats.{over-zero, root-of-nan, not-nan, root-zero, root-minus-zero, root-infinity, root-positive, root-none, result-no-nan}
+use borrow.Author.Needs.{needs}
+use Rattle.root.proofs.square_root.Statement.{statement}
+use Rattle.root.proofs.square_root.Tie as tie
+use Rattle.root.proofs.square_root.Reads as reads
+use Rattle.root.proofs.square_root.Lts as lts
+use Rattle.root.proofs.root_bits.Reads as root-bits-reads
+
+-- what owning an `f64` tells: the format holds it
+held : (c : tie.Start) → T (fits binary64 (c .args .x))
+held c = subst T (sym (c .good .0 .1)) tt
+
+returns : tie.Need-returns
+returns c = let x = c .before .args .x in subst (λ (r : Float). Root x r) (sym over-zero) (root-of-nan x (c .if1 .taken))
+
+float-to-bits-b : tie.Need-float-to-bits-b
+float-to-bits-b c = not-nan (c .before .args .x) (c .if1 .left)
+
+returns-2 : tie.Need-returns-2
+returns-2 c = root-zero (c .before .before .args .x) (held (c .before .before)) (c .if2 .taken)
+
+returns-3 : tie.Need-returns-3
+returns-3 c = root-minus-zero (c .before .before .before .args .x) (held (c .before .before .before)) (c .if3 .taken)
+
+returns-4 : tie.Need-returns-4
+returns-4 c = root-infinity (c .before .before .before .before .args .x) (held (c .before .before .before .before)) (c .if4 .taken)
+
+root-bits-requires : tie.Need-root-bits-requires
+root-bits-requires c κs = search needs
+
+float-from-bits-result : tie.Need-float-from-bits-result
+float-from-bits-result c = result-no-nan (toBits binary64 (c .before .before .before .before .before .before .args .x)) (c .root-bits .result) (c .root-bits .ensures)
+
+returns-5 : tie.Need-returns-5
+returns-5 c =
+    let s = c .before .before .before .before .before .before in
+    root-positive (s .args .x) (held s) (c .root-bits .result) (c .before .before .before .before .if2 .left) (c .before .if5 .taken) (c .root-bits .ensures)
+
+returns-6 : tie.Need-returns-6
+returns-6 c =
+    let s = c .before .before .before .before .before in
+    subst (λ (r : Float). Root (s .args .x) r) (sym over-zero) (root-none (s .args .x) (held s) (c .before .before .if3 .left) (c .before .if4 .left) (c .if5 .left))
+
+pub square-root-spec : {M : Type 1} → statement M
+square-root-spec = tie.close (tie.spec returns float-to-bits-b returns-2 returns-3 returns-4 root-bits-requires float-from-bits-result returns-5 returns-6)
