@@ -6,3 +6,4 @@ pub mod Insert
 pub mod Rank
 pub mod Own
 pub mod Steps
+pub mod Fronts

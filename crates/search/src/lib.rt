@@ -3,8 +3,9 @@
 use distance::Coord;
 ghost use mathlib.Core.Path.{_≡_};
 ghost use Prim.Native.Nat.{_+_, _<_, _≤_};
-ghost use lib.ListN.{length, replicate};
+ghost use lib.ListN.{length};
 ghost use Rattle.search.specs.Order.{best, before};
+ghost use Rattle.search.specs.Result.{zeros, float-zeros, Rooted};
 ghost use Rattle.search.specs.Refusal.{refusal};
 
 // A point that a query holds: its squared distance and its index.
@@ -49,4 +50,38 @@ pub fn refusal(points: &[f64], q: Coord) -> u32
         return 4;
     }
     0
+}
+
+// Every entry becomes 0: what damage leaves of an index slice.
+pub fn clear(s: &mut [u32])
+    ensures { λ _. ⌜ now (s .exit) ≡ zeros (now (s .entry)) ⌝ }
+{
+    let mut i = 0;
+    while i < s.len() {
+        s[i] = 0;
+        i += 1;
+    }
+}
+
+// The same of a distance slice.
+pub fn clear_floats(s: &mut [f64])
+    ensures { λ _. ⌜ now (s .exit) ≡ float-zeros (now (s .entry)) ⌝ }
+{
+    let mut i = 0;
+    while i < s.len() {
+        s[i] = 0.0;
+        i += 1;
+    }
+}
+
+// The first n entries, squared distances, become distances.
+pub fn take_roots(s: &mut [f64], n: usize)
+    requires { ⌜ n ≤ length (now s) ⌝ }
+    ensures { λ _. ⌜ Rooted n (now (s .entry)) (now (s .exit)) ⌝ }
+{
+    let mut i = 0;
+    while i < n {
+        s[i] = root::square_root(s[i]);
+        i += 1;
+    }
 }
