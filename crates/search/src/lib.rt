@@ -4,7 +4,9 @@ use distance::Coord;
 ghost use mathlib.Core.Path.{_≡_};
 ghost use Prim.Native.Nat.{_+_, _<_, _≤_};
 ghost use lib.ListN.{length};
-ghost use Rattle.search.specs.Order.{best, before};
+ghost use Rattle.distance.specs.Distance.{bound};
+ghost use Rattle.tree.specs.Node.{bounds};
+ghost use Rattle.search.specs.Order.{best, before, left-nearer};
 ghost use Rattle.search.specs.Result.{zeros, float-zeros, Rooted};
 ghost use Rattle.search.specs.Refusal.{refusal};
 
@@ -31,6 +33,23 @@ pub fn before(da: f64, a: u32, db: f64, b: u32) -> bool
         return a < b;
     }
     false
+}
+
+// What a walk skips a node by: its box's bound.
+pub fn node_bound(boxes: &[f64], node: u32, q: Coord) -> f64
+    ensures { λ r. ⌜ r ≡ bound q (bounds (now (boxes .entry)) node) ⌝ }
+{
+    let b = tree::bounds_at(boxes, node);
+    distance::box_bound(q, b)
+}
+
+// Whether the left of two children is visited first: where its centre is no farther.
+pub fn ordered_children(boxes: &[f64], left: u32, right: u32, q: Coord) -> bool
+    ensures { λ r. ⌜ r ≡ left-nearer q (bounds (now (boxes .entry)) left) (bounds (now (boxes .entry)) right) ⌝ }
+{
+    let l = tree::bounds_at(boxes, left);
+    let r = tree::bounds_at(boxes, right);
+    distance::centre_distance_sq(q, l) <= distance::centre_distance_sq(q, r)
 }
 
 // The first of 1, 2 and 4 that applies to a query at q over these points; 0 where none does.
