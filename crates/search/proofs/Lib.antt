@@ -7,3 +7,4 @@ pub mod Rank
 pub mod Own
 pub mod Steps
 pub mod Fronts
+pub mod Written

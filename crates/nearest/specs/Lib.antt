@@ -1,0 +1,2 @@
+-- What the contract of `nearest_neighbour` cites.
+pub mod Nearest

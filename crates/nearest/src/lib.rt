@@ -1,0 +1,165 @@
+// The nearest point to a place: the least squared distance, and of two as near the lower index. The walk visits the
+// nearer child first and passes over a node only where its bound is above the best so far, never where it is equal:
+// a point of the same distance and a lower index may be below it.
+use distance::Coord;
+use tree::Kind;
+ghost use mathlib.Core.Path.{_≡_};
+ghost use Prim.Native.Nat.{_+_, _-_, _*_, _/_, _<_, _≤_};
+ghost use lib.ListN.{length};
+ghost use Rattle.tree.specs.Points.{size};
+ghost use Rattle.tree.specs.Accepted.{tree};
+ghost use Rattle.search.specs.Walk.{scan, outcome, Walks};
+ghost use Rattle.search.specs.Order.{best};
+ghost use Rattle.nearest.specs.Nearest.{better, nearest, celled, told, Answers, at};
+
+// A hit with its index and its distance; no point at all; or the number of a refusal.
+pub enum Nearest {
+    Hit(u32, f64),
+    Empty,
+    Refused(u32),
+}
+
+// The point i at d takes the place of the best so far, unless that one stands before it.
+fn offer(d2: &mut f64, index: &mut u32, d: f64, i: u32)
+    ensures { λ _. ⌜ best (now (d2 .exit)) (now (index .exit)) ≡ better (best (now (d2 .entry)) (now (index .entry))) (best d i) ⌝ }
+{
+    if *d2 < d {
+        return;
+    }
+    if *d2 == d {
+        if *index < i {
+            return;
+        }
+    }
+    *d2 = d;
+    *index = i;
+}
+
+// The points of a leaf; false where an index is no point's.
+fn scan_leaf(points: &[f64], part: &[u32], q: Coord, d2: &mut f64, index: &mut u32) -> bool
+    ensures { λ r. ⌜ celled r (best (now (d2 .exit)) (now (index .exit))) ≡ outcome (scan (size (now (points .entry))) (nearest (now (points .entry)) q .next) 1 (best (now (d2 .entry)) (now (index .entry))) (now (part .entry))) ⌝ }
+{
+    let mut k: usize = 0;
+    while k < part.len() {
+        let w = part[k];
+        let i = w as usize;
+        if i >= points.len() / 2 {
+            return false;
+        }
+        let p = Coord {
+            x: points[2 * i],
+            y: points[2 * i + 1],
+        };
+        let d = distance::coord_distance_sq(q, p);
+        offer(d2, index, d, w);
+        k += 1;
+    }
+    true
+}
+
+// From a node that is to cover start to end, with the best so far in two cells; false where damage is met.
+fn nn_search(
+    points: &[f64],
+    indices: &[u32],
+    boxes: &[f64],
+    links: &[u32],
+    q: Coord,
+    node: u32,
+    start: usize,
+    end: usize,
+    d2: &mut f64,
+    index: &mut u32,
+) -> bool
+    requires { ⌜ start < end ⌝ }
+    ensures { λ r. ⌜ Walks (tree (now (points .entry)) (now (indices .entry)) (now (boxes .entry)) (now (links .entry))) (nearest (now (points .entry)) q) node start end (best (now (d2 .entry)) (now (index .entry))) (celled r (best (now (d2 .exit)) (now (index .exit)))) ⌝ }
+{
+    let k = tree::kind_at(boxes, links, node, start, end);
+    if let Kind::Damaged = k {
+        return false;
+    }
+    let far = search::node_bound(boxes, node, q);
+    if *d2 < far {
+        return true;
+    }
+    let Kind::Branch(left, right) = k else {
+        return scan_leaf(points, tree::part_of(indices, start, end), q, d2, index);
+    };
+    let mid = start + (end - start) / 2;
+    if search::ordered_children(boxes, left, right, q) {
+        if nn_search(
+            points,
+            indices,
+            boxes,
+            links,
+            q,
+            left,
+            start,
+            mid,
+            d2,
+            index,
+        ) {
+            nn_search(points, indices, boxes, links, q, right, mid, end, d2, index)
+        } else {
+            false
+        }
+    } else {
+        if nn_search(points, indices, boxes, links, q, right, mid, end, d2, index) {
+            nn_search(
+                points,
+                indices,
+                boxes,
+                links,
+                q,
+                left,
+                start,
+                mid,
+                d2,
+                index,
+            )
+        } else {
+            false
+        }
+    }
+}
+
+// The nearest point to (x, y).
+pub fn nearest_neighbour(
+    points: &[f64],
+    indices: &[u32],
+    boxes: &[f64],
+    links: &[u32],
+    x: f64,
+    y: f64,
+) -> Nearest
+    ensures { λ r. ⌜ Answers (tree (now (points .entry)) (now (indices .entry)) (now (boxes .entry)) (now (links .entry))) (at x y) (told r) ⌝ }
+{
+    let q = Coord { x, y };
+    let refused = search::refusal(points, q);
+    if refused != 0 {
+        return Nearest::Refused(refused);
+    }
+    let n = points.len() / 2;
+    if n == 0 {
+        return Nearest::Empty;
+    }
+    if indices.len() < n {
+        return Nearest::Refused(9);
+    }
+    let mut d2 = 1.0 / 0.0;
+    let mut index: u32 = 4_294_967_295;
+    if !nn_search(
+        points,
+        indices,
+        boxes,
+        links,
+        q,
+        0,
+        0,
+        n,
+        &mut d2,
+        &mut index,
+    ) {
+        return Nearest::Refused(9);
+    }
+    Nearest::Hit(index, root::square_root(d2))
+}
