@@ -2,7 +2,7 @@
 --   negative x      x has the sign bit, -0 and -infinity included
 --   total-lt x y    x stands before y: by value, and -0 before +0
 --   key x           the bit pattern with its sign turned, and all of it where x is negative
-use mathlib.Core.Bool.{Bool, true, false, not, _&&_, _||_, cond}
+use mathlib.Core.Bool.{Bool, false, not, _&&_, _||_, cond}
 use Prim.Native.Nat.{ℕ, _+_, _-_}
 use lib.Dec.{leb}
 use lib.Ieee.{Float, nan, inf, fin, binary64, toBits, lt, eq}
