@@ -9,7 +9,7 @@ use lib.Ieee.{Float, nan, inf, fin, le, lt, eq, isNan}
 use Rattle.distance.specs.declared.Coord.{Coord}
 use Rattle.distance.specs.declared.Bounds.{Bounds}
 use Rattle.distance.specs.Distance.{d2, clamp, bound}
-use Rattle.distance.proofs.Mono.{or-l}
+use Rattle.distance.proofs.Mono.{or-l, or-r}
 use Rattle.distance.proofs.Box.{Axis, InBox, box-bound, bound-le-d2}
 use Rattle.distance.proofs.Order.{le-total, le-chain, lt-is-not-le}
 
@@ -35,6 +35,10 @@ le-right (inf s) nan h = h
 le-right (fin s m e) nan h = h
 le-right x (inf t) h = tt
 le-right x (fin t n d) h = tt
+
+pub eq-no-nan : (x y : Float) → T (eq x y) → T (not (isNan x))
+unfolding le
+eq-no-nan x y h = le-left x y (or-r (lt x y) (eq x y) h)
 
 pub lt-of-not-le : (x y : Float) → T (not (isNan x)) → T (not (isNan y)) → (T (le y x) → ⊥) → T (lt x y)
 lt-of-not-le x y p q h = rw (lt-is-not-le x y p q) (not-T (le y x) h)
