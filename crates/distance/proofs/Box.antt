@@ -134,15 +134,6 @@ module _ (q p lo hi : Float) (a : Axis q p lo hi) where
   inside : Between q q p
   inside = elim (under-total q p) [ inl h ↦ rising (under-refl q) h | inr h ↦ falling (under-refl q) h ]
 
-  clamp-finite : T (finite (clamp q lo hi))
-  unfolding clamp
-  clamp-finite = go (lt q lo) (lt hi q)
-    where
-      go : (x y : Bool) → T (finite (cond x lo (cond y hi q)))
-      go true y = a .lo-finite
-      go false true = a .hi-finite
-      go false false = a .q-finite
-
   clamp-between : Between q (clamp q lo hi) p
   unfolding clamp
   clamp-between = go (lt q lo) (lt hi q) (lt→under q lo (a .q-finite) (a .lo-finite)) (lt→under hi q (a .hi-finite) (a .q-finite))
@@ -151,6 +142,15 @@ module _ (q p lo hi : Float) (a : Axis q p lo hi) where
       go true y h k = rising (h tt) (le→under lo p (a .lo-finite) (a .p-finite) (a .above-lo))
       go false true h k = falling (k tt) (le→under p hi (a .p-finite) (a .hi-finite) (a .below-hi))
       go false false h k = inside
+
+  clamp-finite : T (finite (clamp q lo hi))
+  unfolding clamp
+  clamp-finite = go (lt q lo) (lt hi q)
+    where
+      go : (x y : Bool) → T (finite (cond x lo (cond y hi q)))
+      go true y = a .lo-finite
+      go false true = a .hi-finite
+      go false false = a .q-finite
 
   clamp-nonneg : T (nonneg (leg q (clamp q lo hi)))
   clamp-nonneg = sq-sub-nonneg q (clamp q lo hi) (a .q-finite) clamp-finite

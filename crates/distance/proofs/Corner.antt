@@ -17,14 +17,6 @@ use Rattle.distance.proofs.Prune.{lt→le, le-self, le-of-not-lt}
 
 -- ---- the larger of two
 module _ (x y : Float) (X : T (nonneg x)) (Y : T (nonneg y)) where
-  larger-nonneg : T (nonneg (larger x y))
-  unfolding larger
-  larger-nonneg = go (lt x y)
-    where
-      go : (b : Bool) → T (nonneg (cond b y x))
-      go true = Y
-      go false = X
-
   left-le-larger : T (le x (larger x y))
   unfolding larger
   left-le-larger = go (lt x y) refl
@@ -40,6 +32,14 @@ module _ (x y : Float) (X : T (nonneg x)) (Y : T (nonneg y)) where
       go : (b : Bool) → lt x y ≡ b → T (le y (cond b y x))
       go true h = le-self y (nonneg-no-nan y Y)
       go false h = le-of-not-lt x y (nonneg-no-nan x X) (nonneg-no-nan y Y) h
+
+  larger-nonneg : T (nonneg (larger x y))
+  unfolding larger
+  larger-nonneg = go (lt x y)
+    where
+      go : (b : Bool) → T (nonneg (cond b y x))
+      go true = Y
+      go false = X
 
 -- ---- one axis
 module _ (q p lo hi : Float) (a : Axis q p lo hi) where

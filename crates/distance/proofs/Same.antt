@@ -1,17 +1,18 @@
--- The squared distance is the same either way, of any two points: as data. Assumes nothing.
+-- The squared distance is the same either way, as data, of any two places, NaN and infinities included (`d2-comm`):
+-- of two finite numbers the gap is the same whole number, and the other cases compute. Assumes nothing.
 use mathlib.Core.Path.{_≡_, refl, sym, ap, _∙_}
-use Prim.Native.Nat.{ℕ, _+_, _-_, _*_}
+use mathlib.Core.Bool.{true, false}
+use Prim.Native.Nat.{ℕ, _+_, _*_}
 use native.Mathlib.Nat.{mul-comm}
 use native.Mathlib.Omega.{arith}
-use mathlib.Core.Bool.{true, false}
-use lib.Ieee.{Float, nan, inf, fin, binary64, up, down, round, add, sub, mul, neg}
+use lib.Ieee.{Float, nan, inf, fin, binary64, round, add, sub, mul}
 use Rattle.distance.specs.Distance.{sq, d2}
-use Rattle.distance.proofs.Sign.{apart, plus, less, den, gap, sq-sub}
+use Rattle.distance.proofs.Sign.{apart, plus, less, den, gap, leg, sq-sub}
 
 apart-comm : (u v : ℕ) → apart u v ≡ apart v u
 apart-comm u v = omega arith
 
-sq-sub-comm : (x y : Float) → sq (sub binary64 x y) ≡ sq (sub binary64 y x)
+sq-sub-comm : (x y : Float) → leg x y ≡ leg y x
 unfolding sq mul sub
 sq-sub-comm nan nan = refl
 sq-sub-comm nan (inf t) = refl
@@ -30,10 +31,13 @@ sq-sub-comm (fin s m e) (fin t n d) =
     let x = fin s m e in
     let y = fin t n d in
     sq-sub x y tt tt
-    ∙ ap (λ (z : ℕ). sq (round binary64 false z (den x * den y))) (apart-comm (plus x * den y + less y * den x) (plus y * den x + less x * den y))
+    ∙ ap (λ (z : ℕ). sq (round binary64 false z (den x * den y)))
+    (apart-comm (plus x * den y + less y * den x) (plus y * den x + less x * den y))
     ∙ ap (λ (z : ℕ). sq (round binary64 false (gap y x) z)) (mul-comm (den x) (den y))
     ∙ sym (sq-sub y x tt tt)
 
 pub d2-comm : (ax ay bx by : Float) → d2 ax ay bx by ≡ d2 bx by ax ay
 unfolding d2
-d2-comm ax ay bx by = ap (λ (z : Float). add binary64 z (sq (sub binary64 ay by))) (sq-sub-comm ax bx) ∙ ap (λ (z : Float). add binary64 (sq (sub binary64 bx ax)) z) (sq-sub-comm ay by)
+d2-comm ax ay bx by =
+    ap (λ (z : Float). add binary64 z (leg ay by)) (sq-sub-comm ax bx)
+    ∙ ap (λ (z : Float). add binary64 (leg bx ax) z) (sq-sub-comm ay by)

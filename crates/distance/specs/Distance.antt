@@ -2,9 +2,9 @@
 --   sq x            x * x
 --   d2 ax ay bx by  the squared distance of the places (ax, ay) and (bx, by)
 --   clamp q lo hi   the number of lo to hi that is nearest to q
+--   bound q b       d2 from q to the nearest place of the box b: what a walk skips by
 --   larger x y      the greater of x and y
 --   far q lo hi     the square of q's distance to the farther of lo and hi
---   bound q b       d2 from q to the nearest place of the box b: what a walk skips by
 --   corner q b      d2 from q to the farthest corner of the box b: where it is within a radius, so is the box
 --   centre q b      d2 from q to the centre of b: what orders two children
 use mathlib.Core.Bool.{cond}

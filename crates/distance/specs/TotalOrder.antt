@@ -1,8 +1,9 @@
 -- IEEE 754's totalOrder of numbers that are no NaN, and a whole number for each that has the same order.
 --   negative x      x has the sign bit, -0 and -infinity included
 --   total-lt x y    x stands before y: by value, and -0 before +0
---   key x           the bit pattern with its sign turned, and all of it where x is negative
-use mathlib.Core.Bool.{Bool, true, false, not, _&&_, _||_, cond}
+--   key-bits b      the pattern b with its sign turned, or all of it where the sign is set
+--   key x           the key of x, which is no NaN
+use mathlib.Core.Bool.{Bool, false, not, _&&_, _||_, cond}
 use Prim.Native.Nat.{ℕ, _+_, _-_}
 use lib.Dec.{leb}
 use lib.Ieee.{Float, nan, inf, fin, binary64, toBits, lt, eq}

@@ -1,5 +1,17 @@
-// Numbers of the plane: the rounded squared distance, the bounds of a box, a test of finite, and a key whose order
-// is IEEE 754's totalOrder. Every operation is rounded once; nothing here asks that a number be in a range.
+// Numbers of the plane: the rounded squared distance, the nearest and the farthest that a box can be, a test of finite,
+// and a key whose order is IEEE 754's totalOrder. Every operation is rounded once, and no number has to be in a range.
+//
+// Promised, for every f64: each function answers what its definition says (specs/). Of the definitions, with query,
+// box and point finite, it is shown (proofs/):
+//   d2 is no NaN, not below zero and not -0; it is the same either way     d2-plain, d2-nonneg, d2-comm
+//   two that are equally far are so in the same bits                       d2-same
+//   bound <= d2 of any point in the box <= corner, and both are attained   bound-le-d2, d2-le-corner, Tight
+//   keys are in totalOrder, infinities too, and equal for no two numbers   key-total, key-inj
+// Cost, in rounded operations: d2 five; the bound those and at most four comparisons; the corner nine and two
+// comparisons; nothing is stored.
+//
+// For a query at (-2, 4) and the box from (1, 3) to (2, 5): the bound is 9, by the place (1, 4), and the corner is 17,
+// by (2, 5). `distance_examples` runs this and the numbers at the edge of the format.
 ghost use mathlib.Core.Path.{_≡_};
 ghost use mathlib.Core.Bool.{not};
 ghost use lib.Dec.{T};

@@ -1,5 +1,4 @@
 -- `distance::clamp` meets its contract: the branch that is taken is the one of the definition. Assumes nothing.
-use mathlib.Core.Path.{_≡_, refl}
 use Rattle.distance.specs.Distance.{clamp}
 use Rattle.distance.proofs.clamp.Statement.{statement}
 use Rattle.distance.proofs.clamp.Tie as tie

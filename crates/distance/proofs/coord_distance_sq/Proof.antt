@@ -1,5 +1,5 @@
 -- `distance::coord_distance_sq` meets its contract: by computation. Assumes nothing.
-use mathlib.Core.Path.{_≡_, refl}
+use mathlib.Core.Path.{refl}
 use Rattle.distance.specs.Distance.{sq, d2}
 use Rattle.distance.proofs.coord_distance_sq.Statement.{statement}
 use Rattle.distance.proofs.coord_distance_sq.Tie as tie

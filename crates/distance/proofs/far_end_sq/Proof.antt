@@ -1,5 +1,4 @@
 -- `distance::far_end_sq` meets its contract: the branch that is taken is the one of the definition. Assumes nothing.
-use mathlib.Core.Path.{_≡_, refl}
 use Rattle.distance.specs.Distance.{sq, larger}
 use Rattle.distance.proofs.far_end_sq.Statement.{statement}
 use Rattle.distance.proofs.far_end_sq.Tie as tie

@@ -1,4 +1,4 @@
--- `distance::is_finite` meets its contract. Assumes nothing.
+-- `distance::is_finite` meets its contract: zero times a number is a zero where it is finite. Assumes nothing.
 use lib.Ieee.{ofBits}
 use Rattle.distance.proofs.Squares.{times-zero}
 use Rattle.distance.proofs.is_finite.Statement.{statement}
