@@ -140,7 +140,7 @@ negative-fields (suc x) t h = go (eqb (suc x) 2047) (eqb t 0)
     go true false = refl
     go false q = root-negative (odd 53 true (0x10_0000_0000_0000 + t) x 1074) ((0x10_0000_0000_0000 + t) * 2 ^ x) (2 ^ 1074) (odd-sign 53 true (0x10_0000_0000_0000 + t) x 1074) (mul-pos (omega arith) (pow-pos x))
 
-is-nan : (x : Float) → isNan x ≡ true → x ≡ nan
+pub is-nan : (x : Float) → isNan x ≡ true → x ≡ nan
 unfolding isNan
 is-nan nan h = refl
 is-nan (inf s) h = absurd (true≢false (sym h))
