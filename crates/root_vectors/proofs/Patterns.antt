@@ -1,6 +1,6 @@
 -- Floats and their patterns, NaNs included. Assumes nothing.
-use mathlib.Core.Path.{_≡_, refl, sym, ap, _∙_, subst}
-use mathlib.Core.Bool.{Bool, true, false, not}
+use mathlib.Core.Path.{_≡_, refl, sym, _∙_, subst}
+use mathlib.Core.Bool.{Bool, true, not}
 use Prim.Native.Nat.{ℕ, _%_, _≤_, _<_}
 use native.Mathlib.Nat.{not-le-of-lt}
 use lib.Dec.{T, ltb, ltb→lt, lt→ltb, not-T}

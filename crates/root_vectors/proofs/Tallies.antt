@@ -12,7 +12,6 @@ use lib.Dec.{T, eqb, eqb→eq}
 use lib.Ieee.{Float, binary64, ofBits}
 use Rattle.root.specs.Root.{Root}
 use Rattle.root_vectors.specs.Vectors.{number, expected, Tallied}
-use Rattle.root_vectors.specs.declared.vectors.Tally.{Tally}
 
 pub line-root : {x r : Float} (b p e : ℕ) → x ≡ ofBits binary64 b → Root x r → ofBits binary64 p ≡ r → eqb p e ≡ true → Root (ofBits binary64 b) (ofBits binary64 e)
 line-root {x} {r} b p e hx h hp q =

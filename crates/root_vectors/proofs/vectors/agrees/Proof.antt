@@ -1,16 +1,9 @@
 -- `agrees` meets its contract, by what its calls ensure (`line-root` of `Tallies.antt`). Assumes nothing.
-use mathlib.Core.Path.{sym, subst}
+use mathlib.Core.Path.{sym}
 use Rattle.root_vectors.proofs.Tallies.{line-root}
-use native.Mathlib.Omega.{arith}
 use borrow.Author.Needs.{needs}
 use Rattle.root_vectors.proofs.vectors.agrees.Statement.{statement}
 use Rattle.root_vectors.proofs.vectors.agrees.Tie as tie
-use Rattle.root_vectors.proofs.vectors.agrees.Reads as reads
-use Rattle.root_vectors.proofs.vectors.agrees.Lts as lts
-use Rattle.root.proofs.square_root.Reads as square-root-reads
-use Rattle.root_vectors.proofs.vectors.float.Reads as float-reads
-use Rattle.root_vectors.proofs.vectors.pattern.Reads as pattern-reads
-use Rattle.root_vectors.proofs.vectors.value.Reads as value-reads
 
 mul-from : tie.Need-mul-from
 mul-from c = search needs

@@ -2,12 +2,9 @@
 use mathlib.Core.Path.{sym, _∙_}
 use Rattle.root.proofs.Floats.{over-zero}
 use Rattle.root_vectors.proofs.Patterns.{pattern-nan, pattern-no-nan}
-use native.Mathlib.Omega.{arith}
 use borrow.Author.Needs.{needs}
 use Rattle.root_vectors.proofs.vectors.float.Statement.{statement}
 use Rattle.root_vectors.proofs.vectors.float.Tie as tie
-use Rattle.root_vectors.proofs.vectors.float.Reads as reads
-use Rattle.root_vectors.proofs.vectors.float.Lts as lts
 
 returns : tie.Need-returns
 returns c = over-zero ∙ sym (pattern-nan (c .before .args .b) (c .if1 .taken))

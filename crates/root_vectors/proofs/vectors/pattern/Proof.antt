@@ -5,12 +5,8 @@ use lib.Ieee.{binary64}
 use lib.Ieee.Bits.{ofBits-toBits}
 use Rattle.root.proofs.Floats.{not-nan}
 use Rattle.root_vectors.proofs.Patterns.{nan-pattern}
-use native.Mathlib.Omega.{arith}
-use borrow.Author.Needs.{needs}
 use Rattle.root_vectors.proofs.vectors.pattern.Statement.{statement}
 use Rattle.root_vectors.proofs.vectors.pattern.Tie as tie
-use Rattle.root_vectors.proofs.vectors.pattern.Reads as reads
-use Rattle.root_vectors.proofs.vectors.pattern.Lts as lts
 
 returns : tie.Need-returns
 returns c = nan-pattern (c .before .args .x) (c .if1 .taken)

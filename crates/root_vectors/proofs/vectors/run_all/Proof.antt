@@ -8,9 +8,6 @@ use native.Mathlib.Omega.{arith}
 use borrow.Author.Needs.{needs}
 use Rattle.root_vectors.proofs.vectors.run_all.Statement.{statement}
 use Rattle.root_vectors.proofs.vectors.run_all.Tie as tie
-use Rattle.root_vectors.proofs.vectors.run_all.Reads as reads
-use Rattle.root_vectors.proofs.vectors.run_all.Lts as lts
-use Rattle.root_vectors.proofs.vectors.agrees.Reads as agrees-reads
 
 abbrev Inv-loop : tie.InvT-loop
 Inv-loop text lines agree₀ first₀ i₀ agree first i = Seen text agree i × (i ≤ lines)

@@ -5,9 +5,6 @@ use native.Mathlib.Omega.{arith}
 use borrow.Author.Needs.{needs}
 use Rattle.root_vectors.proofs.vectors.value.Statement.{statement}
 use Rattle.root_vectors.proofs.vectors.value.Tie as tie
-use Rattle.root_vectors.proofs.vectors.value.Reads as reads
-use Rattle.root_vectors.proofs.vectors.value.Lts as lts
-use Rattle.root_vectors.proofs.vectors.digit.Reads as digit-reads
 
 abbrev Inv-loop : tie.InvT-loop
 Inv-loop text from v₀ k₀ v k = Written text from v k
