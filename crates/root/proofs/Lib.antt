@@ -2,6 +2,6 @@ mod Digits
 mod Scaling
 mod Patterns
 mod Halfway
-mod Floats
+pub mod Floats
 pub mod Unique
 pub mod Worked

@@ -1,28 +1,30 @@
--- The steps of `parts`: the float's digits m and exponent k, then m moved up to 53 digits, then a power of two that is a square. Assumes nothing.
-use mathlib.Core.Path.{_≡_, refl, sym, ap, _∙_, subst}
-use Prim.Native.Nat.{ℕ, zero, suc, _+_, _-_, _*_, _/_, _%_, _^_, _≤_, _<_}
-use native.Mathlib.Nat.{mul-le-mul-right, mul-assoc, lt-of-not-le, not-le-of-lt, lt-of-le-of-lt, lt-of-lt-of-le, le-trans, pow-succ'}
+-- The steps of `scale`: the digits m and the exponent k of a pattern; m moved up to 53 digits, which a shift by at most 52
+-- places does exactly; and a power of two that is a square, an odd one giving a factor of two to the digits. Assumes
+-- nothing.
+use mathlib.Core.Path.{_≡_, sym, ap, _∙_, subst}
+use Prim.Native.Nat.{ℕ, suc, _+_, _-_, _*_, _/_, _%_, _^_, _≤_, _<_}
+use native.Mathlib.Nat.{mul-le-mul-right, mul-assoc, lt-of-not-le, not-le-of-lt, lt-of-lt-of-le, le-trans, pow-succ'}
 use native.Mathlib.Omega.{arith}
 use lib.Pow.{pow-add, pow-mono, shl-lt, shl-exact}
 use lib.Count.{leadingZeros, leading-top}
-use Rattle.root.specs.Steps.{val, Splits}
+use Rattle.root.specs.Steps.{lead, infinity, val, Splits}
 use Rattle.root.proofs.Patterns.{val-low, val-high}
 
 pub record Opened (b m k : ℕ) : Type 0 where
   pub some : 0 < m
-  pub short : m < 0x20_0000_0000_0000
+  pub short : m < 2 * lead
   pub small : k < 2046
   pub equal : val b ≡ m * 2 ^ k
 
-pub opened-low : (b : ℕ) → 0 < b → b < 0x10_0000_0000_0000 → Opened b (b % 0x10_0000_0000_0000) 0
+pub opened-low : (b : ℕ) → 0 < b → b < lead → Opened b (b % lead) 0
 opened-low b h k = record {
   some = omega arith;
   short = omega arith;
   small = omega arith;
-  equal = let e : b % 0x10_0000_0000_0000 ≡ b = omega arith in val-low b k ∙ rw e (omega arith);
+  equal = let e : b % lead ≡ b = omega arith in val-low b k ∙ rw e (omega arith);
 }
 
-pub opened-high : (b : ℕ) → 0x10_0000_0000_0000 ≤ b → b < 0x7ff0_0000_0000_0000 → Opened b (b % 0x10_0000_0000_0000 + 0x10_0000_0000_0000) (b / 0x10_0000_0000_0000 - 1)
+pub opened-high : (b : ℕ) → lead ≤ b → b < infinity → Opened b (b % lead + lead) (b / lead - 1)
 opened-high b h k = record {
   some = omega arith;
   short = omega arith;
@@ -34,13 +36,13 @@ opened-high b h k = record {
 pub record Full (m z : ℕ) : Type 0 where
   pub places : z ≤ 52
   pub exact : (m * 2 ^ z) % 2 ^ 64 ≡ m * 2 ^ z
-  pub low : 0x10_0000_0000_0000 ≤ m * 2 ^ z
-  pub high : m * 2 ^ z < 0x20_0000_0000_0000
+  pub low : lead ≤ m * 2 ^ z
+  pub high : m * 2 ^ z < 2 * lead
 
-below-53 : (j m : ℕ) → 2 ^ j ≤ m → m < 0x20_0000_0000_0000 → j < 53
+below-53 : (j m : ℕ) → 2 ^ j ≤ m → m < 2 * lead → j < 53
 below-53 j m h k = lt-of-not-le (λ (g : 53 ≤ j). not-le-of-lt k (le-trans (pow-mono g) h))
 
-pub full : (m : ℕ) → 0 < m → m < 0x20_0000_0000_0000 → (11 ≤ leadingZeros 64 m) × Full m (leadingZeros 64 m - 11)
+pub full : (m : ℕ) → 0 < m → m < 2 * lead → (11 ≤ leadingZeros 64 m) × Full m (leadingZeros 64 m - 11)
 full m p s =
     let t = leading-top 64 m p (lt-of-lt-of-le s (omega arith)) in
     let j = t .0 in
@@ -58,7 +60,7 @@ full m p s =
     )
 
 -- what a product of powers of two comes to, by the exponents
-powers : (n z e k : ℕ) → z + 52 + e ≡ k + 1074 → n * 2 ^ k * 2 ^ 1074 ≡ n * 2 ^ z * 0x10_0000_0000_0000 * 2 ^ e
+powers : (n z e k : ℕ) → z + 52 + e ≡ k + 1074 → n * 2 ^ k * 2 ^ 1074 ≡ n * 2 ^ z * lead * 2 ^ e
 powers n z e k h =
     mul-assoc n (2 ^ k) (2 ^ 1074)
     ∙ ap (λ (x : ℕ). n * x) (sym (pow-add 2 k 1074) ∙ ap (λ (x : ℕ). 2 ^ x) (sym h) ∙ pow-add 2 (z + 52) e ∙ ap (λ (x : ℕ). x * 2 ^ e) (pow-add 2 z 52))
@@ -75,12 +77,12 @@ odd-power e h =
 
 -- the exponent of what is left
 module _ (b m k z : ℕ) (o : Opened b m k) (f : Full m z) where
-  scaled : val b * 2 ^ 1074 ≡ m * 2 ^ z * 0x10_0000_0000_0000 * 2 ^ (k + 1022 - z)
+  scaled : val b * 2 ^ 1074 ≡ m * 2 ^ z * lead * 2 ^ (k + 1022 - z)
   scaled = ap (λ (x : ℕ). x * 2 ^ 1074) (o .equal) ∙ powers m z (k + 1022 - z) k (omega (arith, f .places))
 
   pub splits-even : ((k + 1022 - z) % 2 ≡ 1 → ⊥) → Splits b (m * 2 ^ z) ((k + 1022 - z) / 2)
   splits-even h = record {
-    equal = scaled ∙ ap (λ (x : ℕ). m * 2 ^ z * 0x10_0000_0000_0000 * x) (even-power (k + 1022 - z) h);
+    equal = scaled ∙ ap (λ (x : ℕ). m * 2 ^ z * lead * x) (even-power (k + 1022 - z) h);
     low = f .low;
     high = omega (arith, f .high);
     h-low = omega (arith, f .places);
@@ -89,12 +91,12 @@ module _ (b m k z : ℕ) (o : Opened b m k) (f : Full m z) where
 
   pub splits-odd : (k + 1022 - z) % 2 ≡ 1 → Splits b (m * 2 ^ z * 2) ((k + 1022 - z) / 2)
   splits-odd h = record {
-    equal = scaled ∙ ap (λ (x : ℕ). m * 2 ^ z * 0x10_0000_0000_0000 * x) (odd-power (k + 1022 - z) h) ∙ twice (m * 2 ^ z) (2 ^ ((k + 1022 - z) / 2) * 2 ^ ((k + 1022 - z) / 2));
+    equal = scaled ∙ ap (λ (x : ℕ). m * 2 ^ z * lead * x) (odd-power (k + 1022 - z) h) ∙ twice (m * 2 ^ z) (2 ^ ((k + 1022 - z) / 2) * 2 ^ ((k + 1022 - z) / 2));
     low = omega (arith, f .low);
     high = omega (arith, f .high);
     h-low = omega (arith, f .places);
     h-high = omega (arith, o .small);
   }
     where
-      twice : (n p : ℕ) → n * 0x10_0000_0000_0000 * (2 * p) ≡ n * 2 * 0x10_0000_0000_0000 * p
+      twice : (n p : ℕ) → n * lead * (2 * p) ≡ n * 2 * lead * p
       twice n p = omega arith

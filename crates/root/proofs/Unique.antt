@@ -1,43 +1,43 @@
--- Two floats that are the root of one float are equal. Larger patterns have larger floats, so the point halfway above the lower is at most that halfway below the higher. Assumes nothing.
+-- Two floats that are the root of one float are equal: `root-unique`. A larger pattern has a larger float, so of two
+-- roots the point halfway up from the lower is at most the point halfway down from the higher, and the input would lie
+-- on both sides of it. Assumes nothing.
 use mathlib.Core.Path.{_≡_, refl, sym, ap, _∙_, subst}
 use mathlib.Core.Logic.{_⊎_, inl, inr}
-use mathlib.Core.Bool.{Bool, true, false, not, cond, true≢false}
+use mathlib.Core.Bool.{Bool, true, false, cond, true≢false}
 use Prim.Native.Nat.{ℕ, zero, suc, _+_, _-_, _*_, _/_, _%_, _^_, _≤_, _<_}
-use native.Mathlib.Nat.{le-refl, le-trans, eq-or-lt-of-le, le-of-eq, mul-le-mul, mul-le-mul-right, lt-irrefl, lt-of-lt-of-le, lt-of-le-of-lt, lt-of-not-le, lt-trans, add-le-add, mul-one, add-suc, not-le-of-lt}
+use native.Mathlib.Nat.{le-refl, le-trans, eq-or-lt-of-le, le-of-eq, mul-le-mul, mul-le-mul-right, lt-irrefl, lt-of-lt-of-le, lt-of-le-of-lt, lt-of-not-le, lt-trans, add-le-add}
 use native.Mathlib.Decide.{decLe}
-use native.Mathlib.Numerals.{add-one}
 use native.Mathlib.Omega.{arith}
-use lib.IntN.{ℤ, pos}
-use lib.Dec.{T, leb, ltb, eqb, leb→le, nleb→lt, lit<}
-use lib.Ieee.{Float, nan, inf, fin, binary64, odd, ofFields, ofBits, toBits, fits}
-use lib.Ieee.Bits.{ofBits-toBits, ofBits-fits, toBits-lt}
-use lib.Ieee.Exact.{HasValue, odd-sign}
+use lib.Dec.{T, eqb}
+use lib.Ieee.{Float, nan, inf, fin, binary64, ofFields, ofBits, toBits, fits}
+use lib.Ieee.Bits.{ofBits-toBits, toBits-lt}
+use lib.Ieee.Exact.{HasValue}
 use lib.Ieee.Positive.{positive}
 use Rattle.root.specs.Root.{Root, Nearest, units, next, previous}
-use Rattle.root.specs.Steps.{val}
-use Rattle.root.proofs.Patterns.{val-low, val-at}
+use Rattle.root.specs.Steps.{lead, infinity, sign, val}
+use Rattle.root.proofs.Patterns.{fieldVal, val-low, val-at}
 use Rattle.root.proofs.Halfway.{val-next}
-use Rattle.root.proofs.Floats.{ofBits-is, units-bits, bits-back, next-is, previous-is}
+use Rattle.root.proofs.Floats.{ofBits-signed, ofBits-unsigned, fields-top, fields-value, units-bits, units-next, units-previous}
 
 -- ---- a larger pattern is a larger float
-val-low-to : (b : ℕ) → b ≤ 0x10_0000_0000_0000 → val b ≡ b
+val-low-to : (b : ℕ) → b ≤ lead → val b ≡ b
 val-low-to b h = go (eq-or-lt-of-le h)
   where
-    go : (b ≡ 0x10_0000_0000_0000) ⊎ (b < 0x10_0000_0000_0000) → val b ≡ b
-    go (inl e) = ap val e ∙ val-at 0 0x10_0000_0000_0000 (omega arith) (omega arith) ∙ sym e
+    go : (b ≡ lead) ⊎ (b < lead) → val b ≡ b
+    go (inl e) = ap val e ∙ val-at 0 lead (omega arith) (omega arith) ∙ sym e
     go (inr l) = val-low b l
 
 val-step : (b : ℕ) → val b ≤ val (b + 1)
-val-step b = go (decLe 0x10_0000_0000_0000 b)
+val-step b = go (decLe lead b)
   where
-    go : Dec (0x10_0000_0000_0000 ≤ b) → val b ≤ val (b + 1)
+    go : Dec (lead ≤ b) → val b ≤ val (b + 1)
     go (no n) =
         let l = lt-of-not-le n in
         rw (val-low-to b (omega arith), val-low-to (b + 1) (omega arith)) (omega arith)
     go (yes l) =
-        let x = b / 0x10_0000_0000_0000 - 1 in
-        let d = 0x10_0000_0000_0000 + b % 0x10_0000_0000_0000 in
-        let e : b ≡ x * 0x10_0000_0000_0000 + d = omega arith in
+        let x = b / lead - 1 in
+        let d = lead + b % lead in
+        let e : b ≡ x * lead + d = omega arith in
         subst (λ (y : ℕ). val y ≤ val (y + 1)) (sym e)
         (rw (val-at x d (omega arith) (omega arith), val-next x d (omega arith) (omega arith)) (mul-le-mul-right (2 ^ x) (omega arith)))
 
@@ -57,45 +57,40 @@ not-negative (inf s) a c v p = absurd p
 not-negative (fin true m e) a c v p = absurd p
 not-negative (fin false m e) a c v p = absurd (true≢false (sym (v .0)))
 
-signed-fields : (x t : ℕ) → T (positive (ofFields binary64 true x t)) → ⊥
-unfolding ofFields
-signed-fields zero t p = not-negative (odd 53 true t 0 1074) (t * 2 ^ 0) (2 ^ 1074) (odd-sign 53 true t 0 1074) p
-signed-fields (suc x) t p = go (eqb (suc x) 2047) (eqb t 0) p
+fields-not-positive : (s : Bool) (x t : ℕ) → x ≤ 2047 → (x < 2047 → s ≡ true) → T (positive (ofFields binary64 s x t)) → ⊥
+fields-not-positive s x t h k p = go (eq-or-lt-of-le h)
   where
-    go : (p q : Bool) → T (positive (cond p (cond q (inf true) nan) (odd 53 true (0x10_0000_0000_0000 + t) x 1074))) → ⊥
-    go true true p = absurd p
-    go true false p = absurd p
-    go false q p = not-negative (odd 53 true (0x10_0000_0000_0000 + t) x 1074) ((0x10_0000_0000_0000 + t) * 2 ^ x) (2 ^ 1074) (odd-sign 53 true (0x10_0000_0000_0000 + t) x 1074) p
+    top : (s q : Bool) → T (positive (cond q (inf s) nan)) → ⊥
+    top s true p = absurd p
+    top s false p = absurd p
 
-top-field : (t : ℕ) → T (positive (ofFields binary64 false 2047 t)) → ⊥
-unfolding ofFields
-top-field t p = go (eqb t 0) p
+    go : (x ≡ 2047) ⊎ (x < 2047) → ⊥
+    go (inl e) = top s (eqb t 0) (subst (λ (v : Float). T (positive v)) (ap (λ (y : ℕ). ofFields binary64 s y t) e ∙ fields-top s t) p)
+    go (inr l) = not-negative (ofFields binary64 s x t) (fieldVal x t) (2 ^ 1074) (subst (λ (b : Bool). HasValue (ofFields binary64 s x t) b (fieldVal x t) (2 ^ 1074)) (k l) (fields-value s x t l)) p
+
+not-positive : (b : ℕ) → infinity ≤ b → b < 2 * sign → T (positive (ofBits binary64 b)) → ⊥
+not-positive b h k p = go (decLe sign b)
   where
-    go : (q : Bool) → T (positive (cond q (inf false) nan)) → ⊥
-    go true p = absurd p
-    go false p = absurd p
+    at : {v : Float} → ofBits binary64 b ≡ v → T (positive v)
+    at e = subst (λ (x : Float). T (positive x)) e p
 
-not-positive : (b : ℕ) → 0x7ff0_0000_0000_0000 ≤ b → b < 0x1_0000_0000_0000_0000 → T (positive (ofBits binary64 b)) → ⊥
-not-positive b h k p = go (leb 0x8000_0000_0000_0000 b) refl
-  where
-    at : (s : Bool) → leb 0x8000_0000_0000_0000 b ≡ s → T (positive (ofFields binary64 s (b % 0x8000_0000_0000_0000 / 0x10_0000_0000_0000) (b % 0x10_0000_0000_0000)))
-    at s e = subst (λ (x : Float). T (positive x)) (ofBits-is b ∙ ap (λ (s : Bool). ofFields binary64 s (b % 0x8000_0000_0000_0000 / 0x10_0000_0000_0000) (b % 0x10_0000_0000_0000)) e) p
+    go : Dec (sign ≤ b) → ⊥
+    go (yes l) = fields-not-positive true (b % sign / lead) (b % lead) (omega arith) (λ m. refl) (at (ofBits-signed b l))
+    go (no n) =
+        let l = lt-of-not-le n in
+        fields-not-positive false (b / lead) (b % lead) (omega arith) (λ m. absurd (never m)) (at (ofBits-unsigned b l))
+      where
+        never : b / lead < 2047 → ⊥
+        never m = omega arith
 
-    go : (s : Bool) → leb 0x8000_0000_0000_0000 b ≡ s → ⊥
-    go true e = signed-fields (b % 0x8000_0000_0000_0000 / 0x10_0000_0000_0000) (b % 0x10_0000_0000_0000) (at true e)
-    go false e =
-        let l = nleb→lt 0x8000_0000_0000_0000 b (subst (λ (s : Bool). T (not s)) (sym e) tt) in
-        let d : b % 0x8000_0000_0000_0000 / 0x10_0000_0000_0000 ≡ 2047 = omega arith in
-        top-field (b % 0x10_0000_0000_0000) (subst (λ (x : ℕ). T (positive (ofFields binary64 false x (b % 0x10_0000_0000_0000)))) d (at false e))
-
-finite-bits : (r : Float) → T (fits binary64 r) → T (positive r) → toBits binary64 r < 0x7ff0_0000_0000_0000
+finite-bits : (r : Float) → T (fits binary64 r) → T (positive r) → toBits binary64 r < infinity
 finite-bits r f p = lt-of-not-le (λ h. not-positive (toBits binary64 r) h (toBits-lt binary64 r f) (subst (λ (x : Float). T (positive x)) (sym (ofBits-toBits binary64 r f)) p))
 
 -- ---- the points halfway, in order
-halfway : (b c : ℕ) → b < c → c < 0x7ff0_0000_0000_0000
+halfway : (b c : ℕ) → b < c → c < infinity
     → units (ofBits binary64 b) + units (next (ofBits binary64 b)) ≤ units (previous (ofBits binary64 c)) + units (ofBits binary64 c)
 halfway b c h k =
-    rw (next-is b (omega arith), previous-is c k, units-bits b (omega arith), units-bits c k)
+    rw (units-next b (omega arith), units-previous c k, units-bits b (omega arith), units-bits c k)
     (add-le-add (val-mono b (c - 1) (omega arith)) (val-mono (b + 1) c (omega arith)))
 
 apart : (x r q : Float) → T (fits binary64 r) → T (fits binary64 q) → T (positive q) → Nearest x r → Nearest x q → toBits binary64 r < toBits binary64 q → ⊥
@@ -117,8 +112,13 @@ nearest-unique x r q f g p o n m =
         go2 (inl e) = e
         go2 (inr l) = absurd (apart x r q f g o n m l)
 
--- at most one float is the root of x
-pub root-unique : (x r q : Float) → T (fits binary64 r) → T (fits binary64 q) → Root x r → Root x q → r ≡ q
+-- of the floats that binary64 holds, at most one is the root of x
+pub root-unique : (x r q : Float)
+    → T (fits binary64 r)
+    → T (fits binary64 q)
+    → Root x r
+    → Root x q
+    → r ≡ q
 unfolding Root
 root-unique nan r q f g h k = h ∙ sym k
 root-unique (inf true) r q f g h k = h ∙ sym k
@@ -134,7 +134,7 @@ pub nearer-than-below : (x r y : Float) → T (fits binary64 r) → T (fits bina
 nearer-than-below x r y f g p n h =
     let b = toBits binary64 r in
     let fin-r = finite-bits r f p in
-    let l : units (ofBits binary64 (toBits binary64 y)) ≤ units (previous (ofBits binary64 b)) = rw (units-bits (toBits binary64 y) (omega arith), previous-is b fin-r) (val-mono (toBits binary64 y) (b - 1) (omega arith)) in
+    let l : units (ofBits binary64 (toBits binary64 y)) ≤ units (previous (ofBits binary64 b)) = rw (units-bits (toBits binary64 y) (omega arith), units-previous b fin-r) (val-mono (toBits binary64 y) (b - 1) (omega arith)) in
     let k : units y ≤ units (previous r) = rw (ofBits-toBits binary64 r f, ofBits-toBits binary64 y g) at l in
     lt-of-le-of-lt (mul-le-mul (add-le-add k (le-refl (units r))) (add-le-add k (le-refl (units r)))) (n .above)
 
@@ -143,6 +143,6 @@ pub nearer-than-above : (x r y : Float) → T (fits binary64 r) → T (fits bina
 nearer-than-above x r y f g p n h =
     let b = toBits binary64 r in
     let fin-y = finite-bits y g p in
-    let l : units (next (ofBits binary64 b)) ≤ units (ofBits binary64 (toBits binary64 y)) = rw (next-is b (omega arith), units-bits (toBits binary64 y) fin-y) (val-mono (b + 1) (toBits binary64 y) (omega arith)) in
+    let l : units (next (ofBits binary64 b)) ≤ units (ofBits binary64 (toBits binary64 y)) = rw (units-next b (omega arith), units-bits (toBits binary64 y) fin-y) (val-mono (b + 1) (toBits binary64 y) (omega arith)) in
     let k : units (next r) ≤ units y = rw (ofBits-toBits binary64 r f, ofBits-toBits binary64 y g) at l in
     lt-of-lt-of-le (n .below) (mul-le-mul (add-le-add (le-refl (units r)) k) (add-le-add (le-refl (units r)) k))

@@ -13,9 +13,9 @@
 //    root * root + root + 1/4. The quarter keeps a whole number off that point, so there is no tie to break.
 // 5. `root_bits` writes the exponent h above these digits. A digit that carries out of the top goes into the
 //    exponent, as it must. The root of the least float is 2^-537, so no root is subnormal.
-ghost use Prim.Native.Nat.{_*_, _<_, _≤_};
+ghost use Prim.Native.Nat.{_-_, _*_, _<_, _≤_};
 ghost use Rattle.root.specs.Root.{Root};
-ghost use Rattle.root.specs.Steps.{Rounds, Splits, RootBits};
+ghost use Rattle.root.specs.Steps.{lead, infinity, Rounds, Splits, RootBits};
 
 // 2^52: the leading digit of a normal float, and the place of the exponent in the pattern.
 const LEAD: u64 = 0x10_0000_0000_0000;
@@ -34,8 +34,8 @@ struct Scaled {
 // root's bits below `bit` are to come. A bit b joins the root where 2 * root + b is at most twice the rest: the top
 // bit of their difference says so, which takes no branch.
 fn nearest_root(a: u64) -> u64
-    requires { ⌜ (0x10_0000_0000_0000 ≤ a) × (a < 0x3f_ffff_ffff_ffff) ⌝ }
-    ensures { λ r. ⌜ Rounds (a * 0x10_0000_0000_0000) r ⌝ }
+    requires { ⌜ (lead ≤ a) × (a < 4 * lead - 1) ⌝ }
+    ensures { λ r. ⌜ Rounds (a * lead) r ⌝ }
 {
     let mut root = LEAD;
     let mut rest = a - LEAD;
@@ -51,9 +51,10 @@ fn nearest_root(a: u64) -> u64
     if rest > root { root + 1 } else { root }
 }
 
-// The float of a pattern, scaled; a has 53 or 54 digits.
+// The float of a pattern, scaled; a has 53 or 54 digits. The float is m * 2^k in units of 2^-1074, and z is how far m
+// moves up to have 53 digits; the scale takes 52 places more, which leaves 2^e.
 fn scale(b: u64) -> Scaled
-    requires { ⌜ (0 < b) × (b < 0x7ff0_0000_0000_0000) ⌝ }
+    requires { ⌜ (0 < b) × (b < infinity) ⌝ }
     ensures { λ r. ⌜ Splits b (r .a) (r .h) ⌝ }
 {
     let mut m = b % LEAD;
@@ -74,7 +75,7 @@ fn scale(b: u64) -> Scaled
 
 // The pattern of the root of a finite float above zero, from that float's pattern.
 fn root_bits(b: u64) -> u64
-    requires { ⌜ (0 < b) × (b < 0x7ff0_0000_0000_0000) ⌝ }
+    requires { ⌜ (0 < b) × (b < infinity) ⌝ }
     ensures { λ r. ⌜ RootBits b r ⌝ }
 {
     let s = scale(b);

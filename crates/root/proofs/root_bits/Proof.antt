@@ -1,11 +1,8 @@
 -- `root::root_bits` meets its contract: `root-bits` of `Halfway.antt`. Assumes nothing.
-use native.Mathlib.Omega.{arith}
 use borrow.Author.Needs.{needs}
 use Rattle.root.proofs.Halfway.{root-bits}
 use Rattle.root.proofs.root_bits.Statement.{statement}
 use Rattle.root.proofs.root_bits.Tie as tie
-use Rattle.root.proofs.root_bits.Reads as reads
-use Rattle.root.proofs.root_bits.Lts as lts
 
 scale-requires : tie.Need-scale-requires
 scale-requires c κs = search needs

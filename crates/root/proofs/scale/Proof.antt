@@ -9,8 +9,6 @@ use borrow.Author.Needs.{needs}
 use Rattle.root.proofs.Scaling.{Opened, opened-low, opened-high, Full, full, splits-even, splits-odd}
 use Rattle.root.proofs.scale.Statement.{statement}
 use Rattle.root.proofs.scale.Tie as tie
-use Rattle.root.proofs.scale.Reads as reads
-use Rattle.root.proofs.scale.Lts as lts
 
 add-m : tie.Need-add-m
 add-m c = search needs

@@ -1,5 +1,5 @@
 -- `root::square_root` meets its contract: a NaN, the two zeros and the infinity by computation, and the rest by the pattern (`Floats.antt`). Assumes nothing.
-use mathlib.Core.Path.{_≡_, refl, sym, ap, _∙_, subst}
+use mathlib.Core.Path.{sym, subst}
 use lib.Dec.{T}
 use lib.Ieee.{Float, binary64, fits, toBits}
 use Rattle.root.specs.Root.{Root}
@@ -7,9 +7,6 @@ use Rattle.root.proofs.Floats.{over-zero, root-of-nan, not-nan, root-ze
 use borrow.Author.Needs.{needs}
 use Rattle.root.proofs.square_root.Statement.{statement}
 use Rattle.root.proofs.square_root.Tie as tie
-use Rattle.root.proofs.square_root.Reads as reads
-use Rattle.root.proofs.square_root.Lts as lts
-use Rattle.root.proofs.root_bits.Reads as root-bits-reads
 
 -- what owning an `f64` tells: the format holds it
 held : (c : tie.Start) → T (fits binary64 (c .args .x))

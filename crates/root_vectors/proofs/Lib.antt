@@ -1,0 +1,3 @@
+mod Text
+mod Patterns
+mod Tallies
