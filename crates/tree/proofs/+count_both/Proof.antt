@@ -1,7 +1,6 @@
 -- `tree::count_both` meets its contract. The measure is c. Assumes nothing.
 use Rattle.tree.proofs.Counting.{both-leaf, both-full, both-even, both-odd, both-bound}
 use native.Mathlib.Omega.{arith}
-use borrow.Author.Needs.{needs}
 use Prim.Native.Nat.{ℕ, _<_}
 use borrow.Fn.Kinds.{In}
 use borrow.Fn.PlainCycle.{Measures, is, falls, and}
