@@ -1,3 +1,4 @@
 -- Laws that the function proofs and the layers above cite.
 pub mod ChildNumbers
 pub mod Counting
+pub mod NotFinite

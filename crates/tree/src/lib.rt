@@ -6,8 +6,9 @@ ghost use mathlib.Core.Path.{_≡_};
 ghost use Prim.Native.Nat.{ℕ, _+_, _-_, _*_, _/_, _<_, _≤_};
 ghost use lib.ListN.{getD};
 ghost use lib.Ieee.{nan};
+ghost use Rattle.tree.specs.Points.{limit, FirstBad};
 ghost use Rattle.tree.specs.Node.{bounds, children, kind, part};
-ghost use Rattle.tree.specs.Count.{nodes};
+ghost use Rattle.tree.specs.Count.{leaf-of, nodes, node-count};
 
 // What a node is: a leaf, a branch with its two children, or damage.
 pub enum Kind {
@@ -95,4 +96,82 @@ pub fn part_of<'a>(indices: &'a [u32], start: usize, end: usize) -> &'a [u32]
         return &indices[0..0];
     }
     &indices[start..end]
+}
+
+// The least index of a point that is not finite; with none, the number of points.
+pub fn first_bad(points: &[f64]) -> usize
+    ensures { λ r. ⌜ FirstBad (now (points .entry)) r ⌝ }
+{
+    let mut i: usize = 0;
+    while i < points.len() / 2 {
+        if !distance::is_finite(points[2 * i]) {
+            return i;
+        }
+        if !distance::is_finite(points[2 * i + 1]) {
+            return i;
+        }
+        i += 1;
+    }
+    i
+}
+
+// The nodes of a tree over c points, and over one more.
+struct Counts {
+    here: usize,
+    next: usize,
+}
+
+// The leaf size that counts.
+pub fn leaf_of(leaf_size: u32) -> usize
+    ensures { λ r. ⌜ r ≡ leaf-of «leaf_size» ⌝ }
+{
+    if leaf_size > 0 { leaf_size as usize } else { 1 }
+}
+
+// N(c) and N(c + 1) together: halving c meets no third size, so there is one call a level.
+fn count_both(leaf: usize, c: usize) -> Counts
+    requires { ⌜ (0 < leaf) × (0 < c) × (c ≤ limit) ⌝ }
+    ensures { λ r. ⌜ (r .here ≡ nodes leaf c) × (r .next ≡ nodes leaf (c + 1)) ⌝ }
+{
+    if c < leaf {
+        return Counts { here: 1, next: 1 };
+    }
+    if c <= leaf {
+        return Counts { here: 1, next: 3 };
+    }
+    let half = count_both(leaf, c / 2);
+    let mixed = 1 + half.here + half.next;
+    if c % 2 == 0 {
+        Counts {
+            here: 1 + half.here + half.here,
+            next: mixed,
+        }
+    } else {
+        Counts {
+            here: mixed,
+            next: 1 + half.next + half.next,
+        }
+    }
+}
+
+// N(c). An inner function: its callers have tested c.
+pub fn count_nodes(leaf: usize, c: usize) -> usize
+    requires { ⌜ (0 < leaf) × (c ≤ limit) ⌝ }
+    ensures { λ r. ⌜ r ≡ nodes leaf c ⌝ }
+{
+    if c == 0 {
+        return 0;
+    }
+    let k = count_both(leaf, c);
+    k.here
+}
+
+// How many nodes a tree over n points needs; 0 where n is past the limit.
+pub fn node_count(n: u32, leaf_size: u32) -> u32
+    ensures { λ r. ⌜ r ≡ node-count n «leaf_size» ⌝ }
+{
+    if n > 1_048_576 {
+        return 0;
+    }
+    count_nodes(leaf_of(leaf_size), n as usize) as u32
 }

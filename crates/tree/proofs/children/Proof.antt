@@ -1,11 +1,10 @@
-use borrow.Author.Tests.{lt-ltb, le-ltb, le-leb, lt-leb, eq-eqb, ne-eqb}
+-- `tree::children` meets its contract, by which of the child numbers are zero. Assumes nothing.
+use borrow.Author.Tests.{lt-ltb, le-ltb}
 use Rattle.tree.proofs.ChildNumbers.{zero-some, some-zero, some-some}
-use mathlib.Core.Path.{_≡_, refl, sym, ap, _∙_, subst}
+use mathlib.Core.Path.{sym}
 use borrow.Author.Needs.{needs}
 use Rattle.tree.proofs.children.Statement.{statement}
 use Rattle.tree.proofs.children.Tie as tie
-use Rattle.tree.proofs.children.Reads as reads
-use Rattle.tree.proofs.children.Lts as lts
 
 returns : tie.Need-returns
 returns c = search needs

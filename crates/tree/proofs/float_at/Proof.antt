@@ -1,12 +1,11 @@
-use mathlib.Core.Path.{_≡_, refl, sym, ap, _∙_, subst}
+-- `tree::float_at` meets its contract; past the end, 0 / 0 is the NaN. Assumes nothing.
+use mathlib.Core.Path.{sym}
 use lib.Ieee.{nan, div, ofBits}
 use denote.Ref.{now}
 use lib.ListN.{List·getD-eq-default}
 use borrow.Author.Needs.{needs}
 use Rattle.tree.proofs.float_at.Statement.{statement}
 use Rattle.tree.proofs.float_at.Tie as tie
-use Rattle.tree.proofs.float_at.Reads as reads
-use Rattle.tree.proofs.float_at.Lts as lts
 
 mul-result : tie.Need-mul-result
 mul-result c = search needs

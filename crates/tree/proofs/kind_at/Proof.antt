@@ -1,13 +1,11 @@
+-- `tree::kind_at` meets its contract, test by test. Assumes nothing.
 use mathlib.Core.Path.{sym}
-use borrow.Author.Tests.{lt-ltb, le-ltb, le-leb, lt-leb, eq-eqb, ne-eqb}
+use borrow.Author.Tests.{le-leb, lt-leb, eq-eqb, ne-eqb}
 use native.Mathlib.Omega.{arith}
 use Prim.Native.Nat.{_+_, _*_}
 use borrow.Author.Needs.{needs}
 use Rattle.tree.proofs.kind_at.Statement.{statement}
 use Rattle.tree.proofs.kind_at.Tie as tie
-use Rattle.tree.proofs.kind_at.Reads as reads
-use Rattle.tree.proofs.kind_at.Lts as lts
-use Rattle.tree.proofs.children.Reads as children-reads
 
 mul-if1 : tie.Need-mul-if1
 mul-if1 c = search needs

@@ -1,9 +1,8 @@
-use borrow.Author.Tests.{lt-ltb, le-ltb, le-leb, lt-leb, eq-eqb, ne-eqb}
+-- `tree::part_of` meets its contract, test by test. Assumes nothing.
+use borrow.Author.Tests.{lt-ltb, le-ltb}
 use borrow.Author.Needs.{needs}
 use Rattle.tree.proofs.part_of.Statement.{statement}
 use Rattle.tree.proofs.part_of.Tie as tie
-use Rattle.tree.proofs.part_of.Reads as reads
-use Rattle.tree.proofs.part_of.Lts as lts
 
 sub-result : tie.Need-sub-result
 sub-result c = search needs

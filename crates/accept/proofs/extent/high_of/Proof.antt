@@ -1,0 +1,12 @@
+-- `accept::extent::high_of` meets its contract. Assumes nothing.
+use Rattle.accept.proofs.extent.high_of.Statement.{statement}
+use Rattle.accept.proofs.extent.high_of.Tie as tie
+
+returns : tie.Need-returns
+returns c = rw (c .if1 .taken)
+
+returns-2 : tie.Need-returns-2
+returns-2 c = rw (c .if1 .left)
+
+pub high-of-spec : {M : Type 1} → statement M
+high-of-spec = tie.close (tie.spec returns returns-2)
