@@ -1,0 +1,3 @@
+-- What the contracts of `select`, and of the build above it, cite.
+pub mod Parts
+pub mod Order
