@@ -1,5 +1,5 @@
 // The square root of an f64, correctly rounded, for every f64. No root is built into the language, so it is worked
-// out here, on whole numbers, from the bits. It costs about 100 ns, without a branch that depends on the digits.
+// out here, on whole numbers, from the bits. It costs about 70 ns: 52 rounds, and no branch in a round.
 //
 // The steps, and why each is exact:
 // 1. `square_root` answers a NaN, the zeros, the infinities and what is below zero from the pattern alone. What is
@@ -11,8 +11,9 @@
 //    The root has 53 digits, as a float has.
 // 4. It rounds up where more is over than the root, which is past the point halfway: (root + 1/2)^2 is
 //    root * root + root + 1/4. The quarter keeps a whole number off that point, so there is no tie to break.
-// 5. `root_bits` writes the exponent h above these digits. A digit that carries out of the top goes into the
-//    exponent, as it must. The root of the least float is 2^-537, so no root is subnormal.
+// 5. `root_bits` adds these digits to h * 2^52: the leading digit is the one by which the exponent's field exceeds h.
+//    The digits stay 53, as a is at most 2^54 - 2, and the root of the least float is 2^-537, so no root overflows or
+//    is subnormal.
 ghost use Prim.Native.Nat.{_-_, _*_, _<_, _≤_};
 ghost use Rattle.root.specs.Root.{Root};
 ghost use Rattle.root.specs.Steps.{lead, infinity, Rounds, Splits, RootBits};
@@ -30,24 +31,27 @@ struct Scaled {
     h: u64,
 }
 
-// The root of a * 2^52, to the nearest whole number. Between rounds root * root + rest * bit is a * 2^52, and the
-// root's bits below `bit` are to come. A bit b joins the root where 2 * root + b is at most twice the rest: the top
-// bit of their difference says so, which takes no branch.
+// The root of a * 2^52, to the nearest whole number. With root for twice / 2, root * root + rest * bit is a * 2^52 after
+// each round, and the bits of the root below `bit` are to come. The half of `bit` belongs to the root where its cost,
+// twice + half, is at most twice the rest. The difference is taken in a word; where it wraps, its top bit `under` is 1,
+// and the cost is given back. So a round has no branch.
 fn nearest_root(a: u64) -> u64
     requires { ⌜ (lead ≤ a) × (a < 4 * lead - 1) ⌝ }
     ensures { λ r. ⌜ Rounds (a * lead) r ⌝ }
 {
-    let mut root = LEAD;
+    let mut twice = LEAD * 2;
     let mut rest = a - LEAD;
     let mut bit = LEAD;
     while bit > 1 {
-        bit = bit / 2;
-        let twice = rest * 2;
-        let cost = root * 2 + bit;
-        let joins = (twice + TOP - cost) / TOP;
-        rest = twice - cost * joins;
-        root = root + bit * joins;
+        let half = bit / 2;
+        let cost = twice + half;
+        let left = std::num::wrapping_sub_u64(rest * 2, cost);
+        let under = left / TOP;
+        rest = std::num::wrapping_add_u64(left, cost * under);
+        twice = twice + bit - bit * under;
+        bit = half;
     }
+    let root = twice / 2;
     if rest > root { root + 1 } else { root }
 }
 
