@@ -98,75 +98,95 @@ fn first_words<'a>(s: &'a [u32], len: usize) -> &'a [u32] {
     if len < s.len() { &s[0..len] } else { &s[0..] }
 }
 
-// The answer over five points and six nodes, with the change. The children of node 0 are 4 and 2, those of node 2 are 5 and 1;
-// node 3 is not reached.
+// The good tree: five points and six nodes. The children of node 0 are 4 and 2, those of node 2 are 5 and 1; node 3 is not reached.
+const POINTS: [f64; 10] = [0.0, 0.0, 3.0, 4.0, 6.0, 8.0, -3.0, 4.0, 1.0, -2.0];
+
+const INDICES: [u32; 6] = [3, 0, 4, 1, 2, 9];
+
+const BOXES: [f64; 36] = [
+    // 0: 0 to 5, a branch
+    1.4,
+    2.8,
+    -3.0,
+    6.0,
+    -2.0,
+    8.0,
+    // 1: 3 to 5, a leaf
+    4.5,
+    6.0,
+    3.0,
+    6.0,
+    4.0,
+    8.0,
+    // 2: 2 to 5, a branch
+    3.0,
+    3.0,
+    1.0,
+    6.0,
+    -2.0,
+    8.0,
+    // 3: anything
+    0.0,
+    0.0,
+    9.0,
+    9.0,
+    9.0,
+    9.0,
+    // 4: 0 to 2, a leaf
+    -1.5,
+    2.0,
+    -3.0,
+    0.0,
+    0.0,
+    4.0,
+    // 5: 2 to 3, a leaf
+    1.0,
+    -2.0,
+    1.0,
+    1.0,
+    -2.0,
+    -2.0,
+];
+
+const LINKS: [u32; 24] = [
+    // 0
+    0,
+    5,
+    4,
+    2,
+    // 1
+    3,
+    5,
+    0,
+    0,
+    // 2
+    2,
+    5,
+    5,
+    1,
+    // 3
+    8,
+    8,
+    8,
+    8,
+    // 4
+    0,
+    2,
+    0,
+    0,
+    // 5
+    2,
+    3,
+    0,
+    0,
+];
+
+// The answer over the tree with the change.
 fn answer(c: Change) -> Checked {
-    let mut points: [f64; 10] = [0.0, 0.0, 3.0, 4.0, 6.0, 8.0, -3.0, 4.0, 1.0, -2.0];
-    let mut indices: [u32; 6] = [3, 0, 4, 1, 2, 9];
-    let mut boxes: [f64; 36] = [
-        1.4,
-        2.8,
-        -3.0,
-        6.0,
-        -2.0,
-        8.0,
-        4.5,
-        6.0,
-        3.0,
-        6.0,
-        4.0,
-        8.0,
-        3.0,
-        3.0,
-        1.0,
-        6.0,
-        -2.0,
-        8.0,
-        0.0,
-        0.0,
-        9.0,
-        9.0,
-        9.0,
-        9.0,
-        -1.5,
-        2.0,
-        -3.0,
-        0.0,
-        0.0,
-        4.0,
-        1.0,
-        -2.0,
-        1.0,
-        1.0,
-        -2.0,
-        -2.0,
-    ];
-    let mut links: [u32; 24] = [
-        0,
-        5,
-        4,
-        2,
-        3,
-        5,
-        0,
-        0,
-        2,
-        5,
-        5,
-        1,
-        8,
-        8,
-        8,
-        8,
-        0,
-        2,
-        0,
-        0,
-        2,
-        3,
-        0,
-        0,
-    ];
+    let mut points = POINTS;
+    let mut indices = INDICES;
+    let mut boxes = BOXES;
+    let mut links = LINKS;
     match c {
         Change::Nothing => accept::check_tree(&points, &indices, &boxes, &links),
         Change::Point(at, v) => {
