@@ -66,10 +66,10 @@ module _ (t : Tree) (v a e : ℕ) where
     says-right R N = R (halves l r k N .1)
 
 -- ---- the same in the terms of the code
-pub leaf-of : (k : Kind) → OneOf (0 ∷ 1 ∷ []) (tagOf K.the-type k) → OneOf (0 ∷ 2 ∷ []) (tagOf K.the-type k) → k ≡ Leaf
-leaf-of Leaf o u = refl
-leaf-of (Branch l r) o u = absurd (elim u [ inl h ↦ omega arith | inr h ↦ omega arith ])
-leaf-of kinds.Damaged o u = absurd (elim o [ inl h ↦ omega arith | inr h ↦ omega arith ])
+pub kind-leaf : (k : Kind) → OneOf (0 ∷ 1 ∷ []) (tagOf K.the-type k) → OneOf (0 ∷ 2 ∷ []) (tagOf K.the-type k) → k ≡ Leaf
+kind-leaf Leaf o u = refl
+kind-leaf (Branch l r) o u = absurd (elim u [ inl h ↦ omega arith | inr h ↦ omega arith ])
+kind-leaf kinds.Damaged o u = absurd (elim o [ inl h ↦ omega arith | inr h ↦ omega arith ])
 
 module _ (t : Tree) (v a e : ℕ) (r : Part) (b : Bounds) (B : b ≡ bounds (t .boxes) v) where
   pub at-leaf : (s : Extent) → r ≡ tested b s → kind (t .boxes) (t .links) v a e ≡ Leaf → Tight (t .points) (t .indices) a e s → Says t v a e r

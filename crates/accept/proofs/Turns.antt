@@ -5,7 +5,7 @@ use mathlib.Core.List.{List}
 use mathlib.Core.Bool.{cond}
 use mathlib.Core.Logic.{inl, inr}
 use Prim.Native.Nat.{ℕ, zero, suc, _+_, _*_, _/_, _%_, _^_, _≤_, _<_}
-use native.Mathlib.Nat.{eq-or-lt-of-le, le-of-suc-le-suc, zero-div}
+use native.Mathlib.Nat.{eq-or-lt-of-le, le-of-suc-le-suc, not-le-of-lt, not-suc-le-zero, zero-div}
 use native.Mathlib.Numerals.{add-one}
 use native.Mathlib.Omega.{arith}
 use lib.Dec.{eqb}
@@ -27,13 +27,10 @@ pub passed-none : (l : List ℕ) (n N : ℕ) → n ≤ 64 * N → Passed l n (re
 passed-none l n N h = record {
   up-to = omega arith;
   words = omega (arith, length-replicate {0} {A = ℕ} N 0);
-  below = λ j g. absurd (no j g);
+  below = λ j g. absurd (not-suc-le-zero g);
   as-often = λ i g. ap (bit (i % 64)) (getD-replicate {0} {A = ℕ} N (i / 64) 0 0 (omega arith)) ∙ nil (i % 64);
 }
   where
-    no : (j : ℕ) → j < 0 → ⊥
-    no j h = omega arith
-
     nil : (s : ℕ) → bit s 0 ≡ 0
     nil s = ap (λ (z : ℕ). z % 2) (zero-div (2 ^ s))
 
@@ -55,19 +52,13 @@ module _ (l : List ℕ) (n k : ℕ) (seen : List ℕ) (room : n ≤ length l) (P
       none : (a : ℕ) → a ≤ 1 → (a ≡ 1 → ⊥) → a ≡ 0
       none zero h f = refl
       none (suc zero) h f = absurd (f refl)
-      none (suc (suc a)) h f = absurd (big a h)
-        where
-          big : (a : ℕ) → suc (suc a) ≤ 1 → ⊥
-          big a h = omega arith
+      none (suc (suc a)) h f = absurd (not-suc-le-zero (le-of-suc-le-suc h))
 
   pub passed-twice : getD l k 0 < n → bit (getD l k 0 % 64) (getD seen (getD l k 0 / 64) 0) ≡ 1 → Once l n → ⊥
   passed-twice h f = twice l n k room in-it (sym (P .as-often (getD l k 0) h) ∙ f)
 
   pub passed-out : n ≤ getD l k 0 → Once l n → ⊥
-  passed-out h o = no (getD l k 0) n (o .below k in-it) h
-    where
-      no : (a b : ℕ) → a < b → b ≤ a → ⊥
-      no a b g h = omega arith
+  passed-out h o = not-le-of-lt (o .below k in-it) h
 
 pub passed-all : (l : List ℕ) (n k : ℕ) (seen : List ℕ) → n ≤ length l → Passed l n seen k → n ≤ k → Once l n
 passed-all l n k seen room P h =

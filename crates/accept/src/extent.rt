@@ -5,6 +5,7 @@ ghost use Prim.Native.Nat.{_/_, _<_, _≤_};
 ghost use lib.ListN.{length, getD};
 ghost use Rattle.accept.specs.Inner.{low-of, high-of, joined, dot, inside, fits, Tight, Ready};
 
+// The least and the greatest of each coordinate.
 pub struct Extent {
     pub min_x: f64,
     pub max_x: f64,
@@ -12,12 +13,14 @@ pub struct Extent {
     pub max_y: f64,
 }
 
+// The lower of two numbers.
 fn low_of(a: f64, b: f64) -> f64
     ensures { λ r. ⌜ r ≡ low-of a b ⌝ }
 {
     if b < a { b } else { a }
 }
 
+// The higher of two numbers.
 fn high_of(a: f64, b: f64) -> f64
     ensures { λ r. ⌜ r ≡ high-of a b ⌝ }
 {

