@@ -145,7 +145,7 @@ high-quick a b p q h = high-left a b (key a) (key b) refl refl (omega (arith, ke
 pub ready-index : (points : List Float) (part : List ℕ) → Ready points part → (k : ℕ) → k < length part → getD part k 0 < size points
 ready-index points part r k h = r .within (getD part k 0) (has-at part k h)
 
-coord-x : (points : List Float) (v : ℕ) → getD points (2 * v) nan ≡ coord points 0 v
+pub coord-x : (points : List Float) (v : ℕ) → getD points (2 * v) nan ≡ coord points 0 v
 coord-x points v = ap (λ (j : ℕ). getD points j nan) (omega arith)
 
 first-only : (part : List ℕ) → 0 < length part → take 1 part ≡ getD part 0 0 ∷ []

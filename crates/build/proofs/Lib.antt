@@ -10,3 +10,5 @@ pub mod Whole
 pub mod Bad
 pub mod Plan
 pub mod Outcomes
+pub mod Unique
+pub mod Accept

@@ -48,6 +48,14 @@ same-sum f (x ∷ xs) ys p =
     let q : Same xs (w .zs) = record { as-often = λ v. omega (arith, p .as-often v, w .counts v) } in
     omega (arith, same-sum f xs (w .zs) q, w .sums f)
 
+-- and the same length
+pub same-length : (xs ys : List ℕ) → Same xs ys → length xs ≡ length ys
+same-length xs ys p = sym (ones xs) ∙ same-sum (λ v. 1) xs ys p ∙ ones ys
+  where
+    ones : (l : List ℕ) → sum (λ v. 1) l ≡ length l
+    ones [] = refl
+    ones (x ∷ l) = omega (arith, ones l)
+
 -- how many entries are before v
 below : (ℕ → ℕ) → ℕ → ℕ → ℕ
 below R v w = cond (ltb (R w) (R v)) 1 0
