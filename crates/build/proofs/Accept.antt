@@ -22,7 +22,7 @@ use Rattle.tree.proofs.Counting.{nodes-leaf, nodes-branch}
 use Rattle.tree.specs.Accepted.{Tree, count, times, Holds, Boxed, Sound, leaf, branch, Grown, Accepted}
 use Rattle.tree.specs.Count.{leaf-of, nodes}
 use Rattle.tree.specs.declared.Kind.{Kind}
-use Rattle.tree.specs.declared.Kind.the-variants.{Leaf, Branch, Damaged}
+use Rattle.tree.specs.declared.Kind.the-variants.{Branch, Damaged}
 use Rattle.tree.specs.Node.{bounds, children, kind}
 use Rattle.tree.specs.Points.{size, x, y, AllFinite}
 use Rattle.select.proofs.Ranks.{finite-number}
@@ -196,33 +196,35 @@ module _ (t : Tree) (points : List Float) (size-of-leaf node start : ℕ) (part 
 
   left-stands : Stands t (node + 1) start l lb kl
   left-stands = record {
-      ai = S .ai;
-      zi = r ++ S .zi;
-      ab = S .ab ++ own;
-      zb = rb ++ S .zb;
-      ak = S .ak ++ row;
-      zk = kr ++ S .zk;
-      indices = parts ∙ simp append-assoc;
-      at-start = S .at-start;
-      boxes = floats ∙ simp append-assoc;
-      at-box = length-append (S .ab) own ∙ omega (arith, S .at-box, h .box .six);
-      links = numbers ∙ simp append-assoc;
-      at-link = length-append (S .ak) row ∙ omega (arith, S .at-link) }
+    ai = S .ai;
+    zi = r ++ S .zi;
+    ab = S .ab ++ own;
+    zb = rb ++ S .zb;
+    ak = S .ak ++ row;
+    zk = kr ++ S .zk;
+    indices = parts ∙ simp append-assoc;
+    at-start = S .at-start;
+    boxes = floats ∙ simp append-assoc;
+    at-box = length-append (S .ab) own ∙ omega (arith, S .at-box, h .box .six);
+    links = numbers ∙ simp append-assoc;
+    at-link = length-append (S .ak) row ∙ omega (arith, S .at-link);
+  }
 
   right-stands : length lb ≡ 6 * nodes size-of-leaf (length l) → length kl ≡ 4 * nodes size-of-leaf (length l) → Stands t other (start + length l) r rb kr
   right-stands e f = record {
-      ai = S .ai ++ l;
-      zi = S .zi;
-      ab = (S .ab ++ own) ++ lb;
-      zb = S .zb;
-      ak = (S .ak ++ row) ++ kl;
-      zk = S .zk;
-      indices = parts ∙ simp append-assoc;
-      at-start = length-append (S .ai) l ∙ omega (arith, S .at-start);
-      boxes = floats ∙ simp append-assoc;
-      at-box = length-append (S .ab ++ own) lb ∙ omega (arith, length-append (S .ab) own, S .at-box, h .box .six);
-      links = numbers ∙ simp append-assoc;
-      at-link = length-append (S .ak ++ row) kl ∙ omega (arith, length-append (S .ak) row, S .at-link) }
+    ai = S .ai ++ l;
+    zi = S .zi;
+    ab = (S .ab ++ own) ++ lb;
+    zb = S .zb;
+    ak = (S .ak ++ row) ++ kl;
+    zk = S .zk;
+    indices = parts ∙ simp append-assoc;
+    at-start = length-append (S .ai) l ∙ omega (arith, S .at-start);
+    boxes = floats ∙ simp append-assoc;
+    at-box = length-append (S .ab ++ own) lb ∙ omega (arith, length-append (S .ab) own, S .at-box, h .box .six);
+    links = numbers ∙ simp append-assoc;
+    at-link = length-append (S .ak ++ row) kl ∙ omega (arith, length-append (S .ak) row, S .at-link);
+  }
 
 -- ---- a subtree is sound
 first-link : (t : Tree) (node start : ℕ) (part : List ℕ) (bs : List Float) (ks : List ℕ) → Stands t node start part bs ks → 0 < length ks → getD (t .links) (node * 4) 0 ≡ getD ks 0 0
@@ -269,26 +271,28 @@ module _ (ls : ℕ) (t : Tree) (H : Held (t .points)) (U : Usable (t .points)) (
 
   stands : Stands t 0 0 (take (count t) (t .indices)) (take (6 * needed ls (t .points)) (t .boxes)) (take (4 * needed ls (t .points)) (t .links))
   stands = record {
-      ai = [];
-      zi = drop (count t) (t .indices);
-      ab = [];
-      zb = drop (6 * needed ls (t .points)) (t .boxes);
-      ak = [];
-      zk = drop (4 * needed ls (t .points)) (t .links);
-      indices = sym (take-append-drop (count t) (t .indices));
-      at-start = refl;
-      boxes = sym (take-append-drop (6 * needed ls (t .points)) (t .boxes));
-      at-box = refl;
-      links = sym (take-append-drop (4 * needed ls (t .points)) (t .links));
-      at-link = refl }
+    ai = [];
+    zi = drop (count t) (t .indices);
+    ab = [];
+    zb = drop (6 * needed ls (t .points)) (t .boxes);
+    ak = [];
+    zk = drop (4 * needed ls (t .points)) (t .links);
+    indices = sym (take-append-drop (count t) (t .indices));
+    at-start = refl;
+    boxes = sym (take-append-drop (6 * needed ls (t .points)) (t .boxes));
+    at-box = refl;
+    links = sym (take-append-drop (4 * needed ls (t .points)) (t .links));
+    at-link = refl;
+  }
 
   grown : Grown t
   grown = record {
-      room = omega (arith, long, length-take (count t) (t .indices));
-      below = λ k h. subst (λ (z : ℕ). z < count t) (getD-take (count t) (t .indices) k 0 h)
-          (each-within (count t) (take (count t) (t .indices)) each (getD (take (count t) (t .indices)) k 0) (has-at (take (count t) (t .indices)) k (omega (arith, long))));
-      once = λ i h. each i ∙ ap (λ (b : Bool). cond {A = ℕ} b 1 0) (lt-ltb i (count t) h);
-      root = subst (Sound t 0 0) long' (sound t (U .all-finite) H (leaf-of ls) (leaf-one ls) root stands (each-within (count t) (take (count t) (t .indices)) each)) }
+    room = omega (arith, long, length-take (count t) (t .indices));
+    below = λ k h. subst (λ (z : ℕ). z < count t) (getD-take (count t) (t .indices) k 0 h)
+        (each-within (count t) (take (count t) (t .indices)) each (getD (take (count t) (t .indices)) k 0) (has-at (take (count t) (t .indices)) k (omega (arith, long))));
+    once = λ i h. each i ∙ ap (λ (b : Bool). cond {A = ℕ} b 1 0) (lt-ltb i (count t) h);
+    root = subst (Sound t 0 0) long' (sound t (U .all-finite) H (leaf-of ls) (leaf-one ls) root stands (each-within (count t) (take (count t) (t .indices)) each));
+  }
     where
       long' : 0 + length (take (count t) (t .indices)) ≡ count t
       long' = omega (arith, long)

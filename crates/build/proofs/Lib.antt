@@ -12,3 +12,4 @@ pub mod Plan
 pub mod Outcomes
 pub mod Unique
 pub mod Accept
+pub mod Once

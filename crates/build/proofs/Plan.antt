@@ -1,7 +1,7 @@
 -- The answer over slices of given lengths, row by row of the refusals: each where the rows before it do not apply.
 -- And any two answers are one. Assumes nothing.
-use mathlib.Core.Path.{_≡_, refl, subst}
-use mathlib.Core.Logic.{_⊎_}
+use mathlib.Core.Path.{_≡_, refl}
+use mathlib.Core.Logic.{_⊎_, inl, inr, ⊎-elim}
 use mathlib.Core.List.{List}
 use Prim.Native.Nat.{ℕ, zero, suc, _/_, _%_, _<_, _≤_}
 use native.Mathlib.Omega.{arith}
@@ -16,10 +16,10 @@ use Rattle.build.specs.Outcome.{told, Usable, odd, too-many, not-finite,
 use Rattle.build.proofs.Numbering.{leaf-one}
 use Rattle.build.proofs.Bad.{all-fine}
 
-no : (a b : ℕ) → a < b → b ≤ a → ⊥
+pub no : (a b : ℕ) → a < b → b ≤ a → ⊥
 no a b g h = omega arith
 
-parity : (a : ℕ) → a ≡ 1 → a ≡ 0 → ⊥
+pub parity : (a : ℕ) → a ≡ 1 → a ≡ 0 → ⊥
 parity a g h = omega arith
 
 even-of : (n : ℕ) → (n % 2 ≡ 1 → ⊥) → n % 2 ≡ 0
@@ -50,8 +50,8 @@ module _ (ls : ℕ) (points : List Float) (i b k : ℕ) where
         plan-indices h = refused (few-indices usable h) refl
 
         module _ (I : size points ≤ i) (n : ℕ) (N : n ≡ needed ls points) where
-          pub plan-nodes : (b / 6 < n) ⊎ (k / 4 < n) → Planned ls points i b k (told (Refused 7 n))
-          plan-nodes h = rw N (refused (few-nodes usable I (subst (λ (z : ℕ). (b / 6 < z) ⊎ (k / 4 < z)) N h)) refl)
+          pub plan-nodes : (w : ℕ) → (w ≡ b / 6) ⊎ (w ≡ k / 4) → w < n → Planned ls points i b k (told (Refused 7 n))
+          plan-nodes w e h = rw N (refused (few-nodes usable I (⊎-elim (λ (p : w ≡ b / 6). inl (omega arith)) (λ (q : w ≡ k / 4). inr (omega arith)) e)) refl)
 
           pub plan-given : n ≤ b / 6 → n ≤ k / 4 → Planned ls points i b k (told (Nodes n))
           plan-given f g = allowed (record { usable = usable; room = I; floats = omega arith; numbers = omega arith }) refl refl N

@@ -8,6 +8,7 @@
 // Where a row of the refusals applies, the answer says which, and no slice is touched.
 use distance::Bounds;
 ghost use mathlib.Core.Path.{_≡_};
+ghost use mathlib.Core.Logic.{_⊎_};
 ghost use mathlib.Core.List.{_∷_, _++_};
 ghost use Prim.Native.Nat.{_+_, _-_, _*_, _/_, _^_, _<_, _≤_};
 ghost use lib.ListN.{length, drop};
@@ -275,6 +276,17 @@ fn node_count(leaf: usize, c: usize) -> usize
     1 + l + r
 }
 
+// How many whole nodes both slices of these lengths hold.
+fn whole_nodes(boxes: usize, links: usize) -> usize
+    ensures { λ r. ⌜ (r ≤ boxes / 6) × ((r ≤ links / 4) × ((r ≡ boxes / 6) ⊎ (r ≡ links / 4))) ⌝ }
+{
+    if boxes / 6 < links / 4 {
+        boxes / 6
+    } else {
+        links / 4
+    }
+}
+
 // The first row of the refusals that applies over slices of these lengths, or how many nodes there will be.
 fn judge(points: &[f64], indices: usize, boxes: usize, links: usize, size: usize) -> Building
     ensures { λ r. ⌜ Planned size (now (points .entry)) indices boxes links (told r) ⌝ }
@@ -294,10 +306,7 @@ fn judge(points: &[f64], indices: usize, boxes: usize, links: usize, size: usize
         return Building::Refused(6, n as u32);
     }
     let need = node_count(leaf_of(size), n);
-    if boxes / 6 < need {
-        return Building::Refused(7, need as u32);
-    }
-    if links / 4 < need {
+    if whole_nodes(boxes, links) < need {
         return Building::Refused(7, need as u32);
     }
     Building::Nodes(need as u32)

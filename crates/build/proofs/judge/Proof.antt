@@ -1,6 +1,5 @@
 -- `build::judge` meets its contract, row by row of the refusals. Assumes nothing.
 use mathlib.Core.Path.{_≡_, ap, _∙_}
-use mathlib.Core.Logic.{inl, inr}
 use Prim.Native.Nat.{ℕ, _<_, _/_}
 use native.Mathlib.Omega.{arith}
 use borrow.Author.Needs.{needs}
@@ -52,15 +51,19 @@ leaf-of-requires c κs = search needs
 node-count-requires : tie.Need-node-count-requires
 node-count-requires c κs = (omega (arith, c .leaf-of .ensures, leaf-one (c .before .before .before .before .before .before .before .args .size)), omega (arith, c .before .before .before .before .if2 .left))
 
+whole-nodes-requires : tie.Need-whole-nodes-requires
+whole-nodes-requires c κs = search needs
+
 cast-t14 : tie.Need-cast-t14
-cast-t14 c = omega (arith, small (c .before))
+cast-t14 c = omega (arith, small (c .before .before))
 
 returns-5 : tie.Need-returns-5
 returns-5 c =
-    let a = c .before .before .before .before .before .before .before .before .before .args in
-    let f = c .before .before .before .before .before .first-bad in
-    plan-nodes (a .size) (a .points .now) (a .indices) (a .boxes) (a .links) (c .before .before .before .before .before .before .before .if1 .left) (c .before .before .before .before .before .before .if2 .left) (f .result) (f .ensures) (c .before .before .before .before .if3 .left)
-    (c .before .before .before .if4 .left) (c .before .node-count .result) (counted (c .before)) (inl (c .if5 .taken))
+    let a = c .before .before .before .before .before .before .before .before .before .before .args in
+    let f = c .before .before .before .before .before .before .first-bad in
+    let w = c .before .whole-nodes in
+    plan-nodes (a .size) (a .points .now) (a .indices) (a .boxes) (a .links) (c .before .before .before .before .before .before .before .before .if1 .left) (c .before .before .before .before .before .before .before .if2 .left) (f .result) (f .ensures) (c .before .before .before .before .before .if3 .left)
+    (c .before .before .before .before .if4 .left) (c .before .before .node-count .result) (counted (c .before .before)) (w .result) (w .ensures .1 .1) (c .if5 .taken)
 
 cast-t15 : tie.Need-cast-t15
 cast-t15 c = omega (arith, small (c .before .before))
@@ -69,18 +72,9 @@ returns-6 : tie.Need-returns-6
 returns-6 c =
     let a = c .before .before .before .before .before .before .before .before .before .before .args in
     let f = c .before .before .before .before .before .before .first-bad in
-    plan-nodes (a .size) (a .points .now) (a .indices) (a .boxes) (a .links) (c .before .before .before .before .before .before .before .before .if1 .left) (c .before .before .before .before .before .before .before .if2 .left) (f .result) (f .ensures) (c .before .before .before .before .before .if3 .left)
-    (c .before .before .before .before .if4 .left) (c .before .before .node-count .result) (counted (c .before .before)) (inr (c .if6 .taken))
-
-cast-t16 : tie.Need-cast-t16
-cast-t16 c = omega (arith, small (c .before .before))
-
-returns-7 : tie.Need-returns-7
-returns-7 c =
-    let a = c .before .before .before .before .before .before .before .before .before .before .args in
-    let f = c .before .before .before .before .before .before .first-bad in
+    let w = c .before .whole-nodes in
     plan-given (a .size) (a .points .now) (a .indices) (a .boxes) (a .links) (c .before .before .before .before .before .before .before .before .if1 .left) (c .before .before .before .before .before .before .before .if2 .left) (f .result) (f .ensures) (c .before .before .before .before .before .if3 .left)
-    (c .before .before .before .before .if4 .left) (c .before .before .node-count .result) (counted (c .before .before)) (c .before .if5 .left) (c .if6 .left)
+    (c .before .before .before .before .if4 .left) (c .before .before .node-count .result) (counted (c .before .before)) (omega (arith, w .ensures, c .if5 .left)) (omega (arith, w .ensures, c .if5 .left))
 
 pub judge-spec : {M : Type 1} → statement M
 judge-spec =
@@ -95,9 +89,8 @@ judge-spec =
     returns-4
     leaf-of-requires
     node-count-requires
+    whole-nodes-requires
     cast-t14
     returns-5
     cast-t15
-    returns-6
-    cast-t16
-    returns-7)
+    returns-6)
