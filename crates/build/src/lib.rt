@@ -1,0 +1,377 @@
+// The build of a ball tree over points, in slices that the caller lends: n indices, and N(n) nodes of six floats (centre
+// x, centre y, min x, max x, min y, max y) and four numbers (start, end, left, right). Points are x and y in turn.
+//
+//     let answer = BallTreeBuilder::with_leaf_size(16).build(points, indices, boxes, links);
+//
+// One tree for one map, whatever the order of its points costs: only the order of the indices inside a leaf and the
+// centres are left free. Time grows as n log n on every input; no memory is used beyond the slices and 20 frames of stack.
+// Where a row of the refusals applies, the answer says which, and no slice is touched.
+use distance::Bounds;
+ghost use mathlib.Core.Path.{_≡_};
+ghost use mathlib.Core.Logic.{_⊎_};
+ghost use mathlib.Core.List.{_∷_, _++_};
+ghost use Prim.Native.Nat.{_+_, _-_, _*_, _/_, _^_, _<_, _≤_};
+ghost use lib.ListN.{length, drop};
+ghost use Rattle.tree.specs.Points.{size, FirstBad};
+ghost use Rattle.tree.specs.Count.{leaf-of, nodes};
+ghost use Rattle.tree.specs.Accepted.{tree};
+ghost use Rattle.build.specs.Built.{Box, axis-of, Each, Built, needed};
+ghost use Rattle.build.specs.Outcome.{told, Given, Planned, Outcome};
+ghost use Rattle.build.specs.Steps.{Number, low-of, high-of, own-of, Ready, Room, Raised};
+
+// The least and the greatest of some coordinates, by totalOrder.
+pub struct Span {
+    pub lo: f64,
+    pub hi: f64,
+}
+
+// What a build comes to: a tree of so many nodes, or a refusal's number and detail.
+pub enum Building {
+    Nodes(u32),
+    Refused(u32, u32),
+}
+
+// ---- the box of a part
+
+// The lower of two by totalOrder. The order of numbers settles it nearly always; the key, only where they may be equal.
+fn low_of(a: f64, b: f64) -> f64
+    requires { ⌜ Number a × Number b ⌝ }
+    ensures { λ r. ⌜ r ≡ low-of a b ⌝ }
+{
+    if a < b {
+        return a;
+    }
+    if distance::total_key(b) < distance::total_key(a) {
+        b
+    } else {
+        a
+    }
+}
+
+// The higher of two.
+fn high_of(a: f64, b: f64) -> f64
+    requires { ⌜ Number a × Number b ⌝ }
+    ensures { λ r. ⌜ r ≡ high-of a b ⌝ }
+{
+    if b < a {
+        return a;
+    }
+    if distance::total_key(a) < distance::total_key(b) {
+        b
+    } else {
+        a
+    }
+}
+
+fn widen(s: Span, x: f64) -> Span
+    requires { ⌜ Number (s .lo) × (Number (s .hi) × Number x) ⌝ }
+    ensures { λ r. ⌜ (r .lo ≡ low-of (s .lo) x) × (r .hi ≡ high-of (s .hi) x) ⌝ }
+{
+    let lo = low_of(s.lo, x);
+    let hi = high_of(s.hi, x);
+    Span { lo, hi }
+}
+
+// The tight box of a part, and the mean of its points.
+fn box_of(points: &[f64], part: &[u32]) -> Bounds
+    requires { ⌜ Ready (now points) (now part) ⌝ }
+    requires { ⌜ length (now part) < 2 ^ 32 ⌝ }
+    ensures { λ r. ⌜ Box (now (points .entry)) (now (part .entry)) (own-of r) ⌝ }
+{
+    let f = 2 * (part[0] as usize);
+    let fx = points[f];
+    let fy = points[f + 1];
+    let mut sx = fx;
+    let mut sy = fy;
+    let mut xs = Span { lo: fx, hi: fx };
+    let mut ys = Span { lo: fy, hi: fy };
+    let mut k = 1;
+    while k < part.len() {
+        let i = 2 * (part[k] as usize);
+        let x = points[i];
+        let y = points[i + 1];
+        sx = sx + x;
+        sy = sy + y;
+        xs = widen(xs, x);
+        ys = widen(ys, y);
+        k += 1;
+    }
+    let n = (part.len() as u32) as f64;
+    Bounds {
+        cx: sx / n,
+        cy: sy / n,
+        min_x: xs.lo,
+        max_x: xs.hi,
+        min_y: ys.lo,
+        max_y: ys.hi,
+    }
+}
+
+// X, unless the box is higher than it is wide.
+fn axis_of(b: Bounds) -> usize
+    ensures { λ r. ⌜ r ≡ axis-of (own-of b) ⌝ }
+{
+    if b.max_x - b.min_x >= b.max_y - b.min_y {
+        0
+    } else {
+        1
+    }
+}
+
+// ---- a node, into the front of its slice
+
+fn put_box(boxes: &mut [f64], b: Bounds)
+    requires { ⌜ 6 ≤ length (now boxes) ⌝ }
+    ensures { λ _. ⌜ now (boxes .exit) ≡ own-of b ++ drop 6 (now (boxes .entry)) ⌝ }
+{
+    boxes[0] = b.cx;
+    boxes[1] = b.cy;
+    boxes[2] = b.min_x;
+    boxes[3] = b.max_x;
+    boxes[4] = b.min_y;
+    boxes[5] = b.max_y;
+}
+
+fn put_link(links: &mut [u32], start: u32, end: u32, left: u32, right: u32)
+    requires { ⌜ 4 ≤ length (now links) ⌝ }
+    ensures { λ _. ⌜ now (links .exit) ≡ start ∷ end ∷ left ∷ right ∷ drop 4 (now (links .entry)) ⌝ }
+{
+    links[0] = start;
+    links[1] = end;
+    links[2] = left;
+    links[3] = right;
+}
+
+// ---- the recursion
+
+// The subtree over a part, from the front of the two node slices on: the parent, the left subtree, the right subtree.
+// Its first node is numbered `node`, its part starts at `start`. Returns how many nodes it has. The part's count falls.
+fn build_recursive(
+    points: &[f64],
+    part: &mut [u32],
+    boxes: &mut [f64],
+    links: &mut [u32],
+    node: usize,
+    start: usize,
+    leaf: usize,
+) -> usize
+    requires { ⌜ Ready (now points) (now part) ⌝ }
+    requires { ⌜ Room leaf node start (length (now part)) (length (now boxes)) (length (now links)) ⌝ }
+    ensures { λ r. ⌜ Raised (now (points .entry)) leaf node start (now (part .entry)) (now (boxes .entry)) (now (links .entry)) (now (part .exit)) (now (boxes .exit)) (now (links .exit)) r ⌝ }
+{
+    let count = part.len();
+    let b = box_of(points, part);
+    put_box(boxes, b);
+    let end = start + count;
+    if count <= leaf {
+        put_link(links, start as u32, end as u32, 0, 0);
+        return 1;
+    }
+    let mid = count / 2;
+    let axis = axis_of(b);
+    select::halve(points, part, axis);
+    let left = build_recursive(
+        points,
+        &mut part[..mid],
+        &mut boxes[6..],
+        &mut links[4..],
+        node + 1,
+        start,
+        leaf,
+    );
+    let right = node + 1 + left;
+    put_link(
+        links,
+        start as u32,
+        end as u32,
+        (node + 1) as u32,
+        right as u32,
+    );
+    let b2 = 6 + 6 * left;
+    let l2 = 4 + 4 * left;
+    let more = build_recursive(
+        points,
+        &mut part[mid..],
+        &mut boxes[b2..],
+        &mut links[l2..],
+        right,
+        start + mid,
+        leaf,
+    );
+    1 + left + more
+}
+
+// 0, 1, 2 and so on.
+fn number(part: &mut [u32])
+    requires { ⌜ length (now part) < 2 ^ 32 ⌝ }
+    ensures { λ _. ⌜ Each (length (now (part .entry))) (now (part .exit)) ⌝ }
+{
+    let mut i = 0;
+    while i < part.len() {
+        part[i] = i as u32;
+        i += 1;
+    }
+}
+
+// The leaf size that counts: 0 counts as 1.
+fn leaf_of(size: usize) -> usize
+    ensures { λ r. ⌜ r ≡ leaf-of size ⌝ }
+{
+    if 0 < size { size } else { 1 }
+}
+
+// The tree over all points. Returns how many nodes it has; none where there is no point.
+fn build_whole(
+    points: &[f64],
+    indices: &mut [u32],
+    boxes: &mut [f64],
+    links: &mut [u32],
+    size: usize,
+) -> usize
+    requires { ⌜ Given size (now points) (length (now indices)) (length (now boxes)) (length (now links)) ⌝ }
+    ensures { λ r. ⌜ (r ≡ needed size (now (points .entry))) × Built size (tree (now (points .entry)) (now (indices .entry)) (now (boxes .entry)) (now (links .entry))) (tree (now (points .entry)) (now (indices .exit)) (now (boxes .exit)) (now (links .exit))) ⌝ }
+{
+    let n = points.len() / 2;
+    if n == 0 {
+        return 0;
+    }
+    let leaf = leaf_of(size);
+    number(&mut indices[..n]);
+    build_recursive(points, &mut indices[..n], boxes, links, 0, 0, leaf)
+}
+
+// ---- what is refused
+
+// The least index of a point that is not finite; n where there is none.
+fn first_bad(points: &[f64]) -> usize
+    ensures { λ r. ⌜ FirstBad (now (points .entry)) r ⌝ }
+{
+    let mut i: usize = 0;
+    while i < points.len() / 2 {
+        if !distance::is_finite(points[2 * i]) {
+            return i;
+        }
+        if !distance::is_finite(points[2 * i + 1]) {
+            return i;
+        }
+        i += 1;
+    }
+    i
+}
+
+// N(c), for a leaf size that counts. The count falls.
+fn node_count(leaf: usize, c: usize) -> usize
+    requires { ⌜ (0 < leaf) × (c < 2 ^ 32) ⌝ }
+    ensures { λ r. ⌜ r ≡ nodes leaf c ⌝ }
+{
+    if c == 0 {
+        return 0;
+    }
+    if c <= leaf {
+        return 1;
+    }
+    let h = c / 2;
+    let l = node_count(leaf, h);
+    let r = node_count(leaf, c - h);
+    1 + l + r
+}
+
+// How many whole nodes both slices of these lengths hold.
+fn whole_nodes(boxes: usize, links: usize) -> usize
+    ensures { λ r. ⌜ (r ≤ boxes / 6) × ((r ≤ links / 4) × ((r ≡ boxes / 6) ⊎ (r ≡ links / 4))) ⌝ }
+{
+    if boxes / 6 < links / 4 {
+        boxes / 6
+    } else {
+        links / 4
+    }
+}
+
+// The first row of the refusals that applies over slices of these lengths, or how many nodes there will be.
+fn judge(points: &[f64], indices: usize, boxes: usize, links: usize, size: usize) -> Building
+    ensures { λ r. ⌜ Planned size (now (points .entry)) indices boxes links (told r) ⌝ }
+{
+    if points.len() % 2 == 1 {
+        return Building::Refused(1, 0);
+    }
+    let n = points.len() / 2;
+    if n > 1_048_576 {
+        return Building::Refused(2, 0);
+    }
+    let bad = first_bad(points);
+    if bad < n {
+        return Building::Refused(3, bad as u32);
+    }
+    if indices < n {
+        return Building::Refused(6, n as u32);
+    }
+    let need = node_count(leaf_of(size), n);
+    if whole_nodes(boxes, links) < need {
+        return Building::Refused(7, need as u32);
+    }
+    Building::Nodes(need as u32)
+}
+
+// ---- the builder
+
+pub struct BallTreeBuilder {
+    leaf_size: u32,
+}
+
+impl BallTreeBuilder {
+    // 16, as in the original: fewer make a deeper tree, more make a leaf's scan longer; both cost a query time.
+    pub const DEFAULT_LEAF_SIZE: u32 = 16;
+
+    pub fn new() -> Self
+        ensures { λ r. ⌜ r .«leaf_size» ≡ 16 ⌝ }
+    {
+        Self {
+            leaf_size: Self::DEFAULT_LEAF_SIZE,
+        }
+    }
+
+    // At most so many points in a leaf; 0 counts as 1.
+    pub fn with_leaf_size(n: u32) -> Self
+        ensures { λ r. ⌜ r .«leaf_size» ≡ n ⌝ }
+    {
+        Self { leaf_size: n }
+    }
+
+    // The same builder with another leaf size.
+    pub fn leaf_size(mut self, n: u32) -> Self
+        ensures { λ r. ⌜ r .«leaf_size» ≡ n ⌝ }
+    {
+        self.leaf_size = n;
+        self
+    }
+
+    // What `build` would answer over slices of these lengths. Nothing is written.
+    pub fn plan(self, points: &[f64], indices: usize, boxes: usize, links: usize) -> Building
+        ensures { λ r. ⌜ Planned (self .«leaf_size») (now (points .entry)) indices boxes links (told r) ⌝ }
+    {
+        judge(points, indices, boxes, links, self.leaf_size as usize)
+    }
+
+    // The tree over the points, into the three slices; or a refusal, and they are as they were.
+    pub fn build(
+        self,
+        points: &[f64],
+        indices: &mut [u32],
+        boxes: &mut [f64],
+        links: &mut [u32],
+    ) -> Building
+        ensures { λ r. ⌜ Outcome (self .«leaf_size») (tree (now (points .entry)) (now (indices .entry)) (now (boxes .entry)) (now (links .entry))) (told r) (tree (now (points .entry)) (now (indices .exit)) (now (boxes .exit)) (now (links .exit))) ⌝ }
+    {
+        let size = self.leaf_size as usize;
+        let answer = judge(points, indices.len(), boxes.len(), links.len(), size);
+        match answer {
+            Building::Refused(number, detail) => {
+                return Building::Refused(number, detail);
+            }
+            Building::Nodes(made) => {
+                build_whole(points, indices, boxes, links, size);
+                return Building::Nodes(made);
+            }
+        }
+    }
+}
