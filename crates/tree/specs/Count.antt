@@ -1,8 +1,9 @@
 -- N(c), the number of nodes of a tree over c points.
---   leaf-of size      the leaf size that counts: 0 counts as 1
---   nodes leaf c      none for no points; one where c is at most a leaf's; else one more than those of the two halves
---   node-count n size the nodes that n points need at a leaf size; 0 where n is past the limit
--- The halving is worked out to a depth, and c is deep enough.
+--   leaf-of size          the leaf size that counts: 0 counts as 1
+--   nodes-to depth leaf c one where c is at most a leaf's; else one more than those of the two halves, down to a depth
+--   nodes leaf c          none for no points, else that, to a depth that is enough
+--   node-count n size     the nodes that n points need at a leaf size; 0 where n is past the limit
+-- That c is deep enough is shown by `nodes-leaf` and `nodes-branch` of proofs/Counting.
 use mathlib.Core.Bool.{cond}
 use Prim.Native.Nat.{ℕ, zero, suc, _+_, _-_, _/_}
 use lib.Dec.{leb, ltb, eqb}
