@@ -18,7 +18,7 @@ use Rattle.distance.proofs.Order.{lt-is-not-le}
 use Rattle.distance.proofs.TotalKey.{key-lt}
 use Rattle.distance.specs.TotalOrder.{key}
 use Rattle.tree.proofs.ChildNumbers.{some-some}
-use Rattle.tree.proofs.Counting.{nodes-leaf, nodes-branch}
+use Rattle.tree.proofs.Counting.{leaf-of-pos, nodes-leaf, nodes-branch}
 use Rattle.tree.specs.Accepted.{Tree, count, times, Holds, Boxed, Sound, leaf, branch, Grown, Accepted}
 use Rattle.tree.specs.Count.{leaf-of, nodes}
 use Rattle.tree.specs.declared.Kind.{Kind}
@@ -30,7 +30,7 @@ use Rattle.select.proofs.Same.{times-append, has-at}
 use Rattle.select.specs.Order.{coord}
 use Rattle.select.specs.Parts.{_∈_, Within}
 use Rattle.build.proofs.Boxes.{coord-x}
-use Rattle.build.proofs.Numbering.{each-within, each-length, leaf-one}
+use Rattle.build.proofs.Numbering.{each-within, each-length}
 use Rattle.build.specs.Agree.{Held}
 use Rattle.build.specs.Built.{Tight, Box, BranchNode, Subtree, a-leaf, a-branch, Each, needed, Built}
 use Rattle.build.specs.Outcome.{Usable}
@@ -291,7 +291,7 @@ module _ (ls : ℕ) (t : Tree) (H : Held (t .points)) (U : Usable (t .points)) (
     below = λ k h. subst (λ (z : ℕ). z < count t) (getD-take (count t) (t .indices) k 0 h)
         (each-within (count t) (take (count t) (t .indices)) each (getD (take (count t) (t .indices)) k 0) (has-at (take (count t) (t .indices)) k (omega (arith, long))));
     once = λ i h. each i ∙ ap (λ (b : Bool). cond {A = ℕ} b 1 0) (lt-ltb i (count t) h);
-    root = subst (Sound t 0 0) long' (sound t (U .all-finite) H (leaf-of ls) (leaf-one ls) root stands (each-within (count t) (take (count t) (t .indices)) each));
+    root = subst (Sound t 0 0) long' (sound t (U .all-finite) H (leaf-of ls) (leaf-of-pos ls) root stands (each-within (count t) (take (count t) (t .indices)) each));
   }
     where
       long' : 0 + length (take (count t) (t .indices)) ≡ count t

@@ -7,7 +7,6 @@ pub mod Step
 pub mod Sum
 pub mod Numbering
 pub mod Whole
-pub mod Bad
 pub mod Plan
 pub mod Outcomes
 pub mod Unique

@@ -13,8 +13,6 @@ use lib.Seq.{take-suc-set}
 use lib.Dec.{ltb, eqb}
 use borrow.Author.Tests.{ltb-true, ltb-false, lt-ltb, le-ltb, eq-eqb, ne-eqb}
 use Rattle.tree.specs.Accepted.{times}
-use Rattle.tree.specs.Count.{leaf-of}
-use Rattle.tree.specs.Points.{size}
 use Rattle.select.proofs.Same.{times-append}
 use Rattle.select.specs.Parts.{Within, Same}
 use Rattle.build.proofs.Sum.{same-length}
@@ -86,10 +84,3 @@ length-upto (suc n) = length-append (upto n) (n ∷ []) ∙ omega (arith, length
 
 pub each-length : (n : ℕ) (xs : List ℕ) → Each n xs → length xs ≡ n
 each-length n xs p = same-length xs (upto n) (each-same n xs (upto n) p (each-upto n)) ∙ length-upto n
-
-pub leaf-one : (size : ℕ) → 0 < leaf-of size
-leaf-one size = go (ltb 0 size) refl
-  where
-    go : (b : Bool) → ltb 0 size ≡ b → 0 < cond b size 1
-    go true e = ltb-true 0 size e
-    go false e = omega arith

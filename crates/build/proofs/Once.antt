@@ -1,126 +1,105 @@
--- One outcome per input: any two answers over one input are the same number, detail and count of nodes; the slices after
--- them are the same, but for the order inside a leaf and the centres; where no row of the refusals applies the build
--- finishes, and what it leaves is accepted. By cases on the rows, each of which rules out the others. Assumes nothing.
-use mathlib.Core.Path.{_≡_, refl, sym, _∙_, ap, subst}
-use mathlib.Core.Logic.{_⊎_, inl, inr, ⊎-elim}
+-- One outcome per input: any two answers over one input tell the same; the slices after them are the same, but for the order
+-- inside a leaf and the centres; where no row of the refusals applies the build finishes; and what it leaves is accepted.
+-- By cases on the rows, each of which rules out the others. Assumes nothing.
+use mathlib.Core.Path.{_≡_, refl, sym, _∙_, ap}
+use mathlib.Core.Logic.{_⊎_, inl, inr}
 use mathlib.Core.Bool.{Bool, true, false}
 use mathlib.Core.List.{List}
-use Prim.Native.Nat.{ℕ, zero, suc, _+_, _*_, _<_, _≤_}
+use Prim.Native.Nat.{ℕ, _<_, _/_}
+use native.Mathlib.Nat.{not-le-of-lt}
 use native.Mathlib.Omega.{arith}
 use lib.ListN.{length}
-use lib.Dec.{T, ltb}
 use lib.Ieee.{Float}
-use lib.Ieee.Fits.{and-i}
-use lib.Ieee.Scale.{finite}
-use borrow.Author.Tests.{ltb-true, ltb-false}
-use Rattle.tree.specs.Points.{size, x, y, finite-at, FirstBad}
+use Rattle.tree.specs.Points.{size, FirstBad}
 use Rattle.tree.specs.Accepted.{Tree, Accepted}
+use Rattle.tree.proofs.NotFinite.{first-bad-not, first-bad-unique, finite-at-of-all}
+use Rattle.build.specs.declared.Building.{Building}
+use Rattle.build.specs.declared.Building.the-variants.{Nodes, Refused}
 use Rattle.build.specs.Built.{needed, Built}
-use Rattle.build.specs.Outcome.{Told, Usable, Refusal, odd, too-many, not-finite, few-indices, few-nodes, Given, Planned, refused, allowed, Outcome}
+use Rattle.build.specs.Outcome.{Told, made, refused, told, Usable, Given, Due, odd, many, not-finite, few-indices, few-nodes, allowed, Outcome}
 use Rattle.build.specs.Agree.{Held, Agree}
-use Rattle.build.proofs.Plan.{no, parity}
-use Rattle.build.proofs.Outcomes.{given-of, made-of}
+use Rattle.build.proofs.Outcomes.{true-false, given-of}
 use Rattle.build.proofs.Unique.{built-agree}
 use Rattle.build.proofs.Accept.{accepted-of-built}
 
-no-bad : (points : List Float) (i : ℕ) → T (finite-at points i) → finite-at points i ≡ false → ⊥
-no-bad points i h e = subst T e h
-
-first-one : (points : List Float) (i j : ℕ) → i < size points → j < size points → FirstBad points i → FirstBad points j → i ≡ j
-first-one points i j I J F G = go (ltb i j) refl (ltb j i) refl
-  where
-    same : (a b : ℕ) → a ≤ b → b ≤ a → a ≡ b
-    same a b g h = omega arith
-
-    go : (b : Bool) → ltb i j ≡ b → (c : Bool) → ltb j i ≡ c → i ≡ j
-    go true p c q = absurd (no-bad points i (G .before i (ltb-true i j p)) (F .there I))
-    go false p true q = absurd (no-bad points j (F .before j (ltb-true j i q)) (G .there J))
-    go false p false q = same i j (ltb-false j i q) (ltb-false i j p)
+parity : (a : ℕ) → a ≡ 1 → a ≡ 0 → ⊥
+parity a g h = omega arith
 
 -- usable points have no bad one
-none-there : (points : List Float) (i : ℕ) → Usable points → i < size points → FirstBad points i → ⊥
-none-there points i u h f =
-    no-bad points i (and-i (finite (x points i)) (finite (y points i)) (u .all-finite (2 * i) (omega arith)) (u .all-finite (2 * i + 1) (omega arith))) (f .there h)
-
--- an answer from its numbers
-told-as : ℕ → ℕ → ℕ → Told
-told-as n d m = record { number = n; detail = d; made = m }
-
-told-same : (a b : Told) → a .number ≡ b .number → a .detail ≡ b .detail → a .made ≡ b .made → a ≡ b
-unfolding told-as
-told-same a b p q r =
-    ap (λ (n : ℕ). told-as n (a .detail) (a .made)) p ∙ ap (λ (d : ℕ). told-as (b .number) d (a .made)) q ∙ ap (λ (m : ℕ). told-as (b .number) (b .detail) m) r
+none-bad : (points : List Float) (i : ℕ) → Usable points → i < size points → FirstBad points i → ⊥
+none-bad points i u h f = first-bad-not points i (finite-at-of-all points i (u .all-finite) h) (f .there h)
 
 module _ (ls : ℕ) (points : List Float) (i b k : ℕ) where
-  -- a row against the rows after it
-  given-refused : {n d : ℕ} → Given ls points i b k → Refusal ls points i b k n d → ⊥
-  given-refused g (odd h) = parity _ h (g .usable .even)
-  given-refused g (too-many h l) = no _ _ l (g .usable .in-limit)
-  given-refused g (not-finite {i = j} h l m f) = none-there points j (g .usable) m f
-  given-refused g (few-indices u h) = no _ _ h (g .room)
-  given-refused g (few-nodes u h (inl s)) = no _ _ s (g .floats)
-  given-refused g (few-nodes u h (inr s)) = no _ _ s (g .numbers)
+  short : Given ls points i b k → (b / 6 < needed ls points) ⊎ (k / 4 < needed ls points) → ⊥
+  short g (inl s) = not-le-of-lt s (g .floats)
+  short g (inr s) = not-le-of-lt s (g .numbers)
 
-  pub refusal-one : {n d m e : ℕ} → Refusal ls points i b k n d → Refusal ls points i b k m e → (n ≡ m) × (d ≡ e)
-  refusal-one (odd a) (odd c) = (refl, refl)
-  refusal-one (odd a) (too-many c d) = absurd (parity _ a c)
-  refusal-one (odd a) (not-finite c d e f) = absurd (parity _ a c)
-  refusal-one (odd a) (few-indices u h) = absurd (parity _ a (u .even))
-  refusal-one (odd a) (few-nodes u h s) = absurd (parity _ a (u .even))
-  refusal-one (too-many a c) (odd d) = absurd (parity _ d a)
-  refusal-one (too-many a c) (too-many d e) = (refl, refl)
-  refusal-one (too-many a c) (not-finite d e f g) = absurd (no _ _ c e)
-  refusal-one (too-many a c) (few-indices u h) = absurd (no _ _ c (u .in-limit))
-  refusal-one (too-many a c) (few-nodes u h s) = absurd (no _ _ c (u .in-limit))
-  refusal-one (not-finite a c d e) (odd f) = absurd (parity _ f a)
-  refusal-one (not-finite a c d e) (too-many f g) = absurd (no _ _ g c)
-  refusal-one (not-finite {i = p} a c d e) (not-finite {i = q} f g h m) = (refl, first-one points p q d h e m)
-  refusal-one (not-finite {i = p} a c d e) (few-indices u h) = absurd (none-there points p u d e)
-  refusal-one (not-finite {i = p} a c d e) (few-nodes u h s) = absurd (none-there points p u d e)
-  refusal-one (few-indices u h) (few-indices v g) = (refl, refl)
-  refusal-one (few-indices u h) (few-nodes v g s) = absurd (no _ _ h g)
-  refusal-one (few-nodes u h s) (few-indices v g) = absurd (no _ _ g h)
-  refusal-one (few-nodes u h s) (few-nodes v g r) = (refl, refl)
-  refusal-one (few-indices u h) (odd a) = absurd (parity _ a (u .even))
-  refusal-one (few-indices u h) (too-many a c) = absurd (no _ _ c (u .in-limit))
-  refusal-one (few-indices u h) (not-finite {i = p} a c d e) = absurd (none-there points p u d e)
-  refusal-one (few-nodes u h s) (odd a) = absurd (parity _ a (u .even))
-  refusal-one (few-nodes u h s) (too-many a c) = absurd (no _ _ c (u .in-limit))
-  refusal-one (few-nodes u h s) (not-finite {i = p} a c d e) = absurd (none-there points p u d e)
+  pub due-one : {a c : Told} → Due ls points i b k a → Due ls points i b k c → a ≡ c
+  due-one (odd a) (odd c) = refl
+  due-one (odd a) (many c d) = absurd (parity _ a c)
+  due-one (odd a) (not-finite c d e f) = absurd (parity _ a c)
+  due-one (odd a) (few-indices u h) = absurd (parity _ a (u .even))
+  due-one (odd a) (few-nodes u h s) = absurd (parity _ a (u .even))
+  due-one (odd a) (allowed g) = absurd (parity _ a (g .usable .even))
+  due-one (many a c) (odd d) = absurd (parity _ d a)
+  due-one (many a c) (many d e) = refl
+  due-one (many a c) (not-finite d e f g) = absurd (not-le-of-lt c e)
+  due-one (many a c) (few-indices u h) = absurd (not-le-of-lt c (u .in-limit))
+  due-one (many a c) (few-nodes u h s) = absurd (not-le-of-lt c (u .in-limit))
+  due-one (many a c) (allowed g) = absurd (not-le-of-lt c (g .usable .in-limit))
+  due-one (not-finite a c d e) (odd f) = absurd (parity _ f a)
+  due-one (not-finite a c d e) (many f g) = absurd (not-le-of-lt g c)
+  due-one (not-finite {i = p} a c d e) (not-finite {i = q} f g h m) = ap (refused 3) (first-bad-unique points p q e m)
+  due-one (not-finite {i = p} a c d e) (few-indices u h) = absurd (none-bad points p u d e)
+  due-one (not-finite {i = p} a c d e) (few-nodes u h s) = absurd (none-bad points p u d e)
+  due-one (not-finite {i = p} a c d e) (allowed g) = absurd (none-bad points p (g .usable) d e)
+  due-one (few-indices u h) (odd a) = absurd (parity _ a (u .even))
+  due-one (few-indices u h) (many a c) = absurd (not-le-of-lt c (u .in-limit))
+  due-one (few-indices u h) (not-finite {i = p} a c d e) = absurd (none-bad points p u d e)
+  due-one (few-indices u h) (few-indices v g) = refl
+  due-one (few-indices u h) (few-nodes v g s) = absurd (not-le-of-lt h g)
+  due-one (few-indices u h) (allowed g) = absurd (not-le-of-lt h (g .room))
+  due-one (few-nodes u h s) (odd a) = absurd (parity _ a (u .even))
+  due-one (few-nodes u h s) (many a c) = absurd (not-le-of-lt c (u .in-limit))
+  due-one (few-nodes u h s) (not-finite {i = p} a c d e) = absurd (none-bad points p u d e)
+  due-one (few-nodes u h s) (few-indices v g) = absurd (not-le-of-lt g h)
+  due-one (few-nodes u h s) (few-nodes v g r) = refl
+  due-one (few-nodes u h s) (allowed g) = absurd (short g s)
+  due-one (allowed g) (odd a) = absurd (parity _ a (g .usable .even))
+  due-one (allowed g) (many a c) = absurd (not-le-of-lt c (g .usable .in-limit))
+  due-one (allowed g) (not-finite {i = p} a c d e) = absurd (none-bad points p (g .usable) d e)
+  due-one (allowed g) (few-indices u h) = absurd (not-le-of-lt h (g .room))
+  due-one (allowed g) (few-nodes u h s) = absurd (short g s)
+  due-one (allowed g) (allowed h) = refl
 
-  pub planned-one : (a c : Told) → Planned ls points i b k a → Planned ls points i b k c → a ≡ c
-  planned-one a c (refused r m) (refused s n) = let e = refusal-one r s in told-same a c (e .0) (e .1) (m ∙ sym n)
-  planned-one a c (refused r m) (allowed g p q s) = absurd (given-refused g r)
-  planned-one a c (allowed g p q s) (refused r m) = absurd (given-refused g r)
-  planned-one a c (allowed g p q s) (allowed h u v w) = told-same a c (p ∙ sym u) (q ∙ sym v) (s ∙ sym w)
-
-zero-or-some : (n : ℕ) → (n ≡ 0) ⊎ (0 < n)
-zero-or-some zero = inl refl
-zero-or-some (suc n) = inr (omega arith)
+-- two answers that tell the same are the same
+pub told-one : (r s : Building) → told r ≡ told s → r ≡ s
+told-one (Nodes k) (Nodes m) e = ap (λ (a : Told). Nodes (a .nodes)) e
+told-one (Nodes k) (Refused n d) e = absurd (true-false (ap (λ (a : Told). a .built) e))
+told-one (Refused n d) (Nodes k) e = absurd (true-false (sym (ap (λ (a : Told). a .built) e)))
+told-one (Refused n d) (Refused m c) e = ap (λ (a : Told). Refused (a .number) (a .detail)) e
 
 module _ (ls : ℕ) (t₀ : Tree) where
   pub outcome-one : (a c : Told) (t u : Tree) → Outcome ls t₀ a t → Outcome ls t₀ c u → a ≡ c
-  outcome-one a c t u o p = planned-one ls (t₀ .points) (length (t₀ .indices)) (length (t₀ .boxes)) (length (t₀ .links)) a c (o .planned) (p .planned)
+  outcome-one a c t u o p = due-one ls (t₀ .points) (length (t₀ .indices)) (length (t₀ .boxes)) (length (t₀ .links)) (o .due) (p .due)
 
   pub outcome-agree : (a c : Told) (t u : Tree) → Held (t₀ .points) → Outcome ls t₀ a t → Outcome ls t₀ c u → (t ≡ u) ⊎ Agree ls t u
-  outcome-agree a c t u H o p =
-      let e : a .number ≡ c .number = ap (λ (z : Told). z .number) (outcome-one a c t u o p) in
-      ⊎-elim
-      (λ (z : a .number ≡ 0). inr (built-agree ls t₀ t u H (o .built z) (p .built (sym e ∙ z))))
-      (λ (s : 0 < a .number). inl (o .kept s ∙ sym (p .kept (subst (λ (n : ℕ). 0 < n) e s))))
-      (zero-or-some (a .number))
+  outcome-agree a c t u H o p = go (a .built) refl
+    where
+      same : a .built ≡ c .built
+      same = ap (λ (z : Told). z .built) (outcome-one a c t u o p)
+
+      go : (b : Bool) → a .built ≡ b → (t ≡ u) ⊎ Agree ls t u
+      go true e = inr (built-agree ls t₀ t u H (o .built e) (p .built (sym same ∙ e)))
+      go false e = inl (o .kept e ∙ sym (p .kept (sym same ∙ e)))
 
   -- where nothing is refused, N(n) nodes are built
   pub outcome-finishes : (a : Told) (t : Tree) → Given ls (t₀ .points) (length (t₀ .indices)) (length (t₀ .boxes)) (length (t₀ .links)) → Outcome ls t₀ a t
-      → (a .number ≡ 0) × ((a .made ≡ needed ls (t₀ .points)) × Built ls t₀ t)
+      → (a ≡ made (needed ls (t₀ .points))) × Built ls t₀ t
   outcome-finishes a t g o =
-      let z : a .number ≡ 0 = answered (o .planned) in
-      (z, (made-of ls (t₀ .points) (length (t₀ .indices)) (length (t₀ .boxes)) (length (t₀ .links)) a z (o .planned), o .built z))
-    where
-      answered : Planned ls (t₀ .points) (length (t₀ .indices)) (length (t₀ .boxes)) (length (t₀ .links)) a → a .number ≡ 0
-      answered (refused r m) = absurd (given-refused ls (t₀ .points) (length (t₀ .indices)) (length (t₀ .boxes)) (length (t₀ .links)) g r)
-      answered (allowed h p q s) = p
+      let e : a ≡ made (needed ls (t₀ .points)) = due-one ls (t₀ .points) (length (t₀ .indices)) (length (t₀ .boxes)) (length (t₀ .links)) (o .due) (allowed g) in
+      (e, o .built (ap (λ (z : Told). z .built) e))
 
-  pub outcome-accepted : (a : Told) (t : Tree) → Held (t₀ .points) → Outcome ls t₀ a t → a .number ≡ 0 → Accepted t
-  outcome-accepted a t H o z =
-      accepted-of-built ls t₀ t H (given-of ls (t₀ .points) (length (t₀ .indices)) (length (t₀ .boxes)) (length (t₀ .links)) a z (o .planned) .usable) (o .built z)
+  pub outcome-accepted : (a : Told) (t : Tree) → Held (t₀ .points) → Outcome ls t₀ a t → a .built ≡ true → Accepted t
+  outcome-accepted a t H o e =
+      accepted-of-built ls t₀ t H (given-of ls (t₀ .points) (length (t₀ .indices)) (length (t₀ .boxes)) (length (t₀ .links)) a e (o .due) .usable) (o .built e)

@@ -1,52 +1,37 @@
--- The build's outcome from the answer: a refusal leaves all as it was, no refusal is told by 0, and where none is given the
--- slices have room. Assumes nothing.
-use mathlib.Core.Path.{_≡_, refl}
+-- The build's outcome from the answer that is due: a refusal leaves all as it was, and where none is given the slices have
+-- room. Assumes nothing.
+use mathlib.Core.Path.{_≡_, refl, sym, subst}
+use mathlib.Core.Bool.{true, false}
 use mathlib.Core.List.{List}
-use Prim.Native.Nat.{ℕ, zero, suc, _<_}
-use native.Mathlib.Nat.{lt-irrefl}
-use native.Mathlib.Omega.{arith}
+use Prim.Native.Nat.{ℕ}
+use lib.Dec.{T}
 use lib.ListN.{length}
 use lib.Ieee.{Float}
-use Rattle.tree.specs.Count.{leaf-of, nodes}
-use Rattle.tree.specs.Accepted.{Tree, count}
+use Rattle.tree.specs.Accepted.{Tree}
 use Rattle.build.specs.declared.Building.the-variants.{Nodes, Refused}
-use Rattle.build.specs.Built.{needed, Built}
-use Rattle.build.specs.Outcome.{Told, told, Refusal, odd, too-many, not-finite, few-indices, few-nodes, Given, Planned, refused, allowed, Outcome}
-use Rattle.build.proofs.Numbering.{leaf-one}
-use Rattle.build.proofs.Step.{at-least}
-use Rattle.build.proofs.Whole.{whole-none}
+use Rattle.build.specs.Built.{Built}
+use Rattle.build.specs.Outcome.{Told, told, Given, Due, odd, many, not-finite, few-indices, few-nodes, allowed, Outcome}
+
+pub true-false : true ≡ false → ⊥
+true-false e = subst T e tt
+
+pub false-true : false ≡ true → ⊥
+false-true e = true-false (sym e)
 
 module _ (ls : ℕ) (points : List Float) (i b k : ℕ) where
-  pub refusal-some : {n d : ℕ} → Refusal ls points i b k n d → 0 < n
-  refusal-some (odd h) = omega arith
-  refusal-some (too-many h l) = omega arith
-  refusal-some (not-finite h l g f) = omega arith
-  refusal-some (few-indices u h) = omega arith
-  refusal-some (few-nodes u h s) = omega arith
-
-  -- the answer is 0 where there is room, and only there
-  pub given-of : (a : Told) → a .number ≡ 0 → Planned ls points i b k a → Given ls points i b k
-  given-of a e (refused r m) = absurd (lt-irrefl 0 (omega (arith, refusal-some r)))
-  given-of a e (allowed g n d m) = g
-
-  pub made-of : (a : Told) → a .number ≡ 0 → Planned ls points i b k a → a .made ≡ needed ls points
-  made-of a e (refused r m) = absurd (lt-irrefl 0 (omega (arith, refusal-some r)))
-  made-of a e (allowed g n d m) = m
-
--- no points where no nodes are needed
-none-needed : (ls n : ℕ) → nodes (leaf-of ls) n ≡ 0 → n ≡ 0
-none-needed ls zero e = refl
-none-needed ls (suc n) e = absurd (lt-irrefl 0 (omega (arith, at-least (leaf-of ls) (suc n) (leaf-one ls) (omega arith))))
+  pub given-of : (a : Told) → a .built ≡ true → Due ls points i b k a → Given ls points i b k
+  given-of a e (odd h) = absurd (false-true e)
+  given-of a e (many h l) = absurd (false-true e)
+  given-of a e (not-finite h l g f) = absurd (false-true e)
+  given-of a e (few-indices u h) = absurd (false-true e)
+  given-of a e (few-nodes u h s) = absurd (false-true e)
+  given-of a e (allowed g) = g
 
 module _ (ls : ℕ) (t₀ : Tree) where
-  pub outcome-refused : (n d : ℕ) → Planned ls (t₀ .points) (length (t₀ .indices)) (length (t₀ .boxes)) (length (t₀ .links)) (told (Refused n d))
+  pub outcome-refused : (n d : ℕ) → Due ls (t₀ .points) (length (t₀ .indices)) (length (t₀ .boxes)) (length (t₀ .links)) (told (Refused n d))
       → Outcome ls t₀ (told (Refused n d)) t₀
-  outcome-refused n d P = record {
-    planned = P;
-    built = λ e. whole-none ls t₀ (none-needed ls (count t₀) (omega (arith, made-of ls (t₀ .points) (length (t₀ .indices)) (length (t₀ .boxes)) (length (t₀ .links)) (told (Refused n d)) e P)));
-    kept = λ h. refl;
-  }
+  outcome-refused n d D = record { due = D; built = λ e. absurd (false-true e); kept = λ e. refl }
 
-  pub outcome-made : (m : ℕ) (t : Tree) → Planned ls (t₀ .points) (length (t₀ .indices)) (length (t₀ .boxes)) (length (t₀ .links)) (told (Nodes m))
+  pub outcome-made : (m : ℕ) (t : Tree) → Due ls (t₀ .points) (length (t₀ .indices)) (length (t₀ .boxes)) (length (t₀ .links)) (told (Nodes m))
       → Built ls t₀ t → Outcome ls t₀ (told (Nodes m)) t
-  outcome-made m t P B = record { planned = P; built = λ e. B; kept = λ h. absurd (lt-irrefl 0 h) }
+  outcome-made m t D B = record { due = D; built = λ e. B; kept = λ e. absurd (true-false e) }

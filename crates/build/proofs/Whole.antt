@@ -7,12 +7,11 @@ use native.Mathlib.Omega.{arith}
 use lib.ListN.{length, take, drop}
 use lib.Seq.{take-at, drop-at}
 use lib.Ieee.{Float}
-use Rattle.tree.proofs.Counting.{nodes-bound}
+use Rattle.tree.proofs.Counting.{leaf-of-pos, nodes-bound}
 use Rattle.tree.specs.Accepted.{Tree, tree, count, times}
 use Rattle.tree.specs.Count.{leaf-of, nodes}
 use Rattle.tree.specs.Points.{size}
-use Rattle.select.proofs.Same.{one}
-use Rattle.build.proofs.Numbering.{each-none, each-within, each-once, leaf-one}
+use Rattle.build.proofs.Numbering.{each-none, each-within, each-once}
 use Rattle.build.specs.Built.{Each, needed, Built}
 use Rattle.build.specs.Outcome.{Given}
 use Rattle.build.specs.Steps.{Ready, Room, Raised}
@@ -30,9 +29,9 @@ module _ (points : List Float) (ls i b k : ℕ) (L : Given ls points i b k) wher
   pub whole-room : (n : ℕ) → n ≡ size points → 0 < size points → Room (leaf-of ls) 0 0 n b k
   whole-room n e h =
       let q : nodes (leaf-of ls) n ≡ needed ls points = ap (nodes (leaf-of ls)) e in
-      let z = nodes-bound (leaf-of ls) (size points) (leaf-one ls) h in
+      let z = nodes-bound (leaf-of ls) (size points) (leaf-of-pos ls) h in
       record {
-        one = leaf-one ls;
+        one = leaf-of-pos ls;
         floats = omega (arith, L .floats);
         numbers = omega (arith, L .numbers);
         node-fits = omega (arith, L .usable .in-limit);

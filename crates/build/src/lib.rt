@@ -12,11 +12,9 @@ ghost use mathlib.Core.Logic.{_⊎_};
 ghost use mathlib.Core.List.{_∷_, _++_};
 ghost use Prim.Native.Nat.{_+_, _-_, _*_, _/_, _^_, _<_, _≤_};
 ghost use lib.ListN.{length, drop};
-ghost use Rattle.tree.specs.Points.{size, FirstBad};
-ghost use Rattle.tree.specs.Count.{leaf-of, nodes};
 ghost use Rattle.tree.specs.Accepted.{tree};
 ghost use Rattle.build.specs.Built.{Box, axis-of, Each, Built, needed};
-ghost use Rattle.build.specs.Outcome.{told, Given, Planned, Outcome};
+ghost use Rattle.build.specs.Outcome.{told, Given, Due, Outcome};
 ghost use Rattle.build.specs.Steps.{Number, low-of, high-of, own-of, Ready, Room, Raised};
 
 // The least and the greatest of some coordinates, by totalOrder.
@@ -213,68 +211,27 @@ fn number(part: &mut [u32])
     }
 }
 
-// The leaf size that counts: 0 counts as 1.
-fn leaf_of(size: usize) -> usize
-    ensures { λ r. ⌜ r ≡ leaf-of size ⌝ }
-{
-    if 0 < size { size } else { 1 }
-}
-
 // The tree over all points. Returns how many nodes it has; none where there is no point.
 fn build_whole(
     points: &[f64],
     indices: &mut [u32],
     boxes: &mut [f64],
     links: &mut [u32],
-    size: usize,
+    leaf_size: u32,
 ) -> usize
-    requires { ⌜ Given size (now points) (length (now indices)) (length (now boxes)) (length (now links)) ⌝ }
-    ensures { λ r. ⌜ (r ≡ needed size (now (points .entry))) × Built size (tree (now (points .entry)) (now (indices .entry)) (now (boxes .entry)) (now (links .entry))) (tree (now (points .entry)) (now (indices .exit)) (now (boxes .exit)) (now (links .exit))) ⌝ }
+    requires { ⌜ Given «leaf_size» (now points) (length (now indices)) (length (now boxes)) (length (now links)) ⌝ }
+    ensures { λ r. ⌜ (r ≡ needed «leaf_size» (now (points .entry))) × Built «leaf_size» (tree (now (points .entry)) (now (indices .entry)) (now (boxes .entry)) (now (links .entry))) (tree (now (points .entry)) (now (indices .exit)) (now (boxes .exit)) (now (links .exit))) ⌝ }
 {
     let n = points.len() / 2;
     if n == 0 {
         return 0;
     }
-    let leaf = leaf_of(size);
+    let leaf = tree::leaf_of(leaf_size);
     number(&mut indices[..n]);
     build_recursive(points, &mut indices[..n], boxes, links, 0, 0, leaf)
 }
 
 // ---- what is refused
-
-// The least index of a point that is not finite; n where there is none.
-fn first_bad(points: &[f64]) -> usize
-    ensures { λ r. ⌜ FirstBad (now (points .entry)) r ⌝ }
-{
-    let mut i: usize = 0;
-    while i < points.len() / 2 {
-        if !distance::is_finite(points[2 * i]) {
-            return i;
-        }
-        if !distance::is_finite(points[2 * i + 1]) {
-            return i;
-        }
-        i += 1;
-    }
-    i
-}
-
-// N(c), for a leaf size that counts. The count falls.
-fn node_count(leaf: usize, c: usize) -> usize
-    requires { ⌜ (0 < leaf) × (c < 2 ^ 32) ⌝ }
-    ensures { λ r. ⌜ r ≡ nodes leaf c ⌝ }
-{
-    if c == 0 {
-        return 0;
-    }
-    if c <= leaf {
-        return 1;
-    }
-    let h = c / 2;
-    let l = node_count(leaf, h);
-    let r = node_count(leaf, c - h);
-    1 + l + r
-}
 
 // How many whole nodes both slices of these lengths hold.
 fn whole_nodes(boxes: usize, links: usize) -> usize
@@ -288,8 +245,8 @@ fn whole_nodes(boxes: usize, links: usize) -> usize
 }
 
 // The first row of the refusals that applies over slices of these lengths, or how many nodes there will be.
-fn judge(points: &[f64], indices: usize, boxes: usize, links: usize, size: usize) -> Building
-    ensures { λ r. ⌜ Planned size (now (points .entry)) indices boxes links (told r) ⌝ }
+fn judge(points: &[f64], indices: usize, boxes: usize, links: usize, leaf_size: u32) -> Building
+    ensures { λ r. ⌜ Due «leaf_size» (now (points .entry)) indices boxes links (told r) ⌝ }
 {
     if points.len() % 2 == 1 {
         return Building::Refused(1, 0);
@@ -298,14 +255,14 @@ fn judge(points: &[f64], indices: usize, boxes: usize, links: usize, size: usize
     if n > 1_048_576 {
         return Building::Refused(2, 0);
     }
-    let bad = first_bad(points);
+    let bad = tree::first_bad(points);
     if bad < n {
         return Building::Refused(3, bad as u32);
     }
     if indices < n {
         return Building::Refused(6, n as u32);
     }
-    let need = node_count(leaf_of(size), n);
+    let need = tree::count_nodes(tree::leaf_of(leaf_size), n);
     if whole_nodes(boxes, links) < need {
         return Building::Refused(7, need as u32);
     }
@@ -347,9 +304,9 @@ impl BallTreeBuilder {
 
     // What `build` would answer over slices of these lengths. Nothing is written.
     pub fn plan(self, points: &[f64], indices: usize, boxes: usize, links: usize) -> Building
-        ensures { λ r. ⌜ Planned (self .«leaf_size») (now (points .entry)) indices boxes links (told r) ⌝ }
+        ensures { λ r. ⌜ Due (self .«leaf_size») (now (points .entry)) indices boxes links (told r) ⌝ }
     {
-        judge(points, indices, boxes, links, self.leaf_size as usize)
+        judge(points, indices, boxes, links, self.leaf_size)
     }
 
     // The tree over the points, into the three slices; or a refusal, and they are as they were.
@@ -362,14 +319,19 @@ impl BallTreeBuilder {
     ) -> Building
         ensures { λ r. ⌜ Outcome (self .«leaf_size») (tree (now (points .entry)) (now (indices .entry)) (now (boxes .entry)) (now (links .entry))) (told r) (tree (now (points .entry)) (now (indices .exit)) (now (boxes .exit)) (now (links .exit))) ⌝ }
     {
-        let size = self.leaf_size as usize;
-        let answer = judge(points, indices.len(), boxes.len(), links.len(), size);
+        let answer = judge(
+            points,
+            indices.len(),
+            boxes.len(),
+            links.len(),
+            self.leaf_size,
+        );
         match answer {
             Building::Refused(number, detail) => {
                 return Building::Refused(number, detail);
             }
             Building::Nodes(made) => {
-                build_whole(points, indices, boxes, links, size);
+                build_whole(points, indices, boxes, links, self.leaf_size);
                 return Building::Nodes(made);
             }
         }

@@ -36,7 +36,7 @@ front c = take-at (xs c) (drop (length (c .before .before .before .before .befor
 returns : tie.Need-returns
 returns c =
     let a = c .before .before .before .before .before .args in
-    (sym (ap (nodes (leaf-of (a .size))) (c .if1 .taken) ∙ nodes-none (leaf-of (a .size))), whole-none (a .size) (tree (a .points .now) (a .indices .now) (a .boxes .now) (a .links .now)) (c .if1 .taken))
+    (sym (ap (nodes (leaf-of (a .leaf-size))) (c .if1 .taken) ∙ nodes-none (leaf-of (a .leaf-size))), whole-none (a .leaf-size) (tree (a .points .now) (a .indices .now) (a .boxes .now) (a .links .now)) (c .if1 .taken))
 
 leaf-of-requires : tie.Need-leaf-of-requires
 leaf-of-requires c κs = search needs
@@ -82,12 +82,12 @@ returns-2 c =
     let d = c .before .before .before .before .before .before .before .before .before .before in
     let g = c .before .before .before .before .before .before .build-recursive in
     let n = length (s .args .points .now) / 2 in
-    let G : Raised (s .args .points .now) (leaf-of (s .args .size)) 0 0 (xs d) (s .args .boxes .now) (s .args .links .now) (g .last .1 .0) (g .last .1 .1 .0) (g .last .1 .1 .1 .0) (g .result) =
+    let G : Raised (s .args .points .now) (leaf-of (s .args .leaf-size)) 0 0 (xs d) (s .args .boxes .now) (s .args .links .now) (g .last .1 .0) (g .last .1 .1 .0) (g .last .1 .1 .1 .0) (g .result) =
     subst (λ (l : ℕ). Raised (s .args .points .now) l 0 0 (xs d) (s .args .boxes .now) (s .args .links .now) (g .last .1 .0) (g .last .1 .1 .0) (g .last .1 .1 .1 .0) (g .result)) (c .before .before .before .before .before .before .before .before .before .before .before .before .before .before .leaf-of .ensures)
     (subst (λ (z : List ℕ). Raised (s .args .points .now) (c .before .before .before .before .before .before .before .before .before .before .before .before .before .before .leaf-of .result) 0 0 z (s .args .boxes .now) (s .args .links .now) (g .last .1 .0) (g .last .1 .1 .0) (g .last .1 .1 .1 .0) (g .result)) (front d) (g .ensures)) in (
-      G .number ∙ ap (nodes (leaf-of (s .args .size))) (sized d),
+      G .number ∙ ap (nodes (leaf-of (s .args .leaf-size))) (sized d),
       rw (drop-at (xs d) (drop n (old d)) n (sized d))
-          (whole-done (s .args .points .now) (s .args .size) (old d) (xs d) (g .last .1 .0) (s .args .links .now) (g .last .1 .1 .1 .0) (s .args .boxes .now) (g .last .1 .1 .0) (g .result) (numbered d) (sized d) (g .kept .1 .0 ∙ ap length (front d) ∙ sized d) G),
+          (whole-done (s .args .points .now) (s .args .leaf-size) (old d) (xs d) (g .last .1 .0) (s .args .links .now) (g .last .1 .1 .1 .0) (s .args .boxes .now) (g .last .1 .1 .0) (g .result) (numbered d) (sized d) (g .kept .1 .0 ∙ ap length (front d) ∙ sized d) G),
     )
 
 pub build-whole-spec : {M : Type 1} → statement M
