@@ -1,0 +1,2 @@
+-- What the contracts of `dbscan` cite.
+pub mod Labels
