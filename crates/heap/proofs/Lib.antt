@@ -6,5 +6,6 @@ pub mod Pairs
 pub mod Settles
 pub mod Order
 pub mod Unload
+pub mod Each
 pub mod Image
 pub mod Least

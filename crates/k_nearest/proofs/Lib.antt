@@ -1,0 +1,4 @@
+-- Laws of the k-nearest query.
+pub mod Heaps
+pub mod Filled
+pub mod Entry
