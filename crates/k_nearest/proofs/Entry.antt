@@ -18,7 +18,7 @@ use Rattle.k_nearest.specs.Inner.{probed}
 
 module _ (t : Tree) (q : Coord) (k room : ℕ) (is₀ : List ℕ) (ds₀ : List Float) where
   pub at-refusal : (m : ℕ) → m ≡ refusal (t .points) q → 0 < m → Answers (answer t q k room) is₀ ds₀ (Refused m 0) is₀ ds₀
-  at-refusal m e h = rw (lt-ltb 0 (refusal (t .points) q) (subst (λ (x : ℕ). 0 < x) e h)) (record { tells = ap (λ (x : ℕ). record { number = x; detail = 0 }) e; leaves = (refl, refl) })
+  at-refusal m e h = rw (lt-ltb 0 (refusal (t .points) q) (subst (λ (x : ℕ). 0 < x) e h)) (record { kind = refl; tells = ap (λ (x : ℕ). record { number = x; detail = 0 }) e; leaves = (refl, refl) })
 
   -- past the first refusals, with w hits to find
   module _ (m : ℕ) (e : m ≡ refusal (t .points) q) (h : m ≤ 0) (w : ℕ) (f : w ≡ wanted k t) where
@@ -26,7 +26,7 @@ module _ (t : Tree) (q : Coord) (k room : ℕ) (is₀ : List ℕ) (ds₀ : List 
     first = le-ltb 0 (refusal (t .points) q) (subst (λ (x : ℕ). x ≤ 0) e h)
 
     pub at-none : w ≡ 0 → Answers (answer t q k room) is₀ ds₀ (Hits 0) is₀ ds₀
-    at-none z = rw (first, eq-eqb (wanted k t) 0 (sym f ∙ z)) (record { tells = refl; leaves = record { roots = []; each-root = none; indices-are = refl; distances-are = refl } })
+    at-none z = rw (first, eq-eqb (wanted k t) 0 (sym f ∙ z)) (record { kind = refl; tells = refl; leaves = record { roots = []; each-root = none; indices-are = refl; distances-are = refl } })
 
     module _ (some : w ≡ 0 → ⊥) (l : ℕ) (g : l ≡ room) (r : Found) (is : List ℕ) (ds : List Float) where
       second : lib.Dec.eqb (wanted k t) 0 ≡ false
@@ -48,7 +48,7 @@ module _ (needed : ℕ) (p : Bool) (g : Got Unit) (P : probed p ≡ g) (is₀ : 
   whole b e = ap probed (sym e) ∙ P
 
   pub probe-whole : p ≡ true → Answers (no-room needed g) is₀ ds₀ (Refused 8 needed) is₀ ds₀
-  probe-whole e = subst (λ (x : Got Unit). Answers (no-room needed x) is₀ ds₀ (Refused 8 needed) is₀ ds₀) (whole true e) (record { tells = refl; leaves = (refl, refl) })
+  probe-whole e = subst (λ (x : Got Unit). Answers (no-room needed x) is₀ ds₀ (Refused 8 needed) is₀ ds₀) (whole true e) (record { kind = refl; tells = refl; leaves = (refl, refl) })
 
   pub probe-damaged : p ≡ false → (r : Found) (is : List ℕ) (ds : List Float) → Answers damaged is₀ ds₀ r is ds → Answers (no-room needed g) is₀ ds₀ r is ds
   probe-damaged e r is ds A = subst (λ (x : Got Unit). Answers (no-room needed x) is₀ ds₀ r is ds) (whole false e) A

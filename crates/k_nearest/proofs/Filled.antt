@@ -65,13 +65,14 @@ module _ (n : ℕ) (is js : List ℕ) (ds es gs : List Float) (in-i : n ≤ leng
   }
 
   pub finished : Answers (hits found-hits) is ds (Hits n) js gs
-  finished = record { tells = ap (λ (m : ℕ). record { number = 0; detail = m }) (sym size); leaves = filled }
+  finished = record { kind = refl; tells = ap (λ (m : ℕ). record { number = 0; detail = m }) (sym size); leaves = filled }
 
 -- ---- a walk, and what is made of what it left
 module _ (is₀ is js : List ℕ) (ds₀ ds gs : List Float) (w : Walked) (g : Got (List Best)) (W : walked w is ds ≡ g) (r : Found) where
   pub fill-hits : (k n : ℕ) → w ≡ Held n → n ≤ length is → n ≤ length ds → Larger k 0 is₀ ds₀ n is ds → Answers (hits (sorted (heap-of n is ds))) is ds r js gs → Answers (found g) is₀ ds₀ r js gs
   fill-hits k n e h i L A =
       subst (λ (x : Got (List Best)). Answers (found x) is₀ ds₀ r js gs) (ap (λ (v : Walked). walked v is ds) (sym e) ∙ W) (record {
+        kind = A .kind;
         tells = A .tells;
         leaves =
             let s = sorted-size n is ds h i in
@@ -86,6 +87,7 @@ module _ (is₀ is js : List ℕ) (ds₀ ds gs : List Float) (w : Walked) (g : G
   pub fill-zeros : w ≡ Damaged → length is ≡ length is₀ → length ds ≡ length ds₀ → Answers damaged is ds r js gs → Answers (found g) is₀ ds₀ r js gs
   fill-zeros e h i A =
       subst (λ (x : Got (List Best)). Answers (found x) is₀ ds₀ r js gs) (ap (λ (v : Walked). walked v is ds) (sym e) ∙ W) (record {
+        kind = A .kind;
         tells = A .tells;
         leaves = (A .leaves .0 ∙ ap (λ (m : ℕ). lib.ListN.replicate m 0) h, A .leaves .1 ∙ ap (λ (m : ℕ). lib.ListN.replicate m (lib.Ieee.ofBits lib.Ieee.binary64 0)) i);
       })

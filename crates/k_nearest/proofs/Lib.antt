@@ -2,3 +2,6 @@
 pub mod Heaps
 pub mod Filled
 pub mod Entry
+pub mod Keep
+pub mod Tied
+pub mod Promise

@@ -7,6 +7,7 @@
 --   probing             the query that holds nothing, for want of room, and so passes over nothing
 --   sorted s            what is held, by (d2, index)
 --   answer t q k room   what the query answers, with room for so many hits
+--   scan-answer points q k room  the same by a plain scan, with no tree
 use mathlib.Core.List.{List, []}
 use mathlib.Core.Bool.{Bool, true, false, cond}
 use Prim.Native.Nat.{ℕ, min}
@@ -15,6 +16,7 @@ use lib.ListN.{length, getD}
 use lib.Ieee.{Float, lt}
 use Rattle.distance.specs.Distance.{bound}
 use Rattle.distance.specs.declared.Coord.{Coord}
+use Rattle.tree.specs.Points.{size}
 use Rattle.tree.specs.Accepted.{Tree, count}
 use Rattle.search.specs.Order.{point, before, left-nearer}
 use Rattle.search.specs.Walk.{Search, Got, broken, got, outcome, walk-all}
@@ -22,6 +24,7 @@ use Rattle.search.specs.Refusal.{refusal}
 use Rattle.search.specs.Answer.{Answer, refused, damaged, hits}
 use Rattle.search.specs.declared.Best.{Best}
 use Rattle.heap.specs.Heap.{heap-sort, offer, blank}
+use Rattle.k_nearest.specs.Scan.{nearest-k}
 
 abbrev pub place : Float → Float → Coord
 place x y = record { x = x; y = y }
@@ -67,3 +70,10 @@ answer t q k room =
     (cond (eqb (wanted k t) 0) (hits [])
     (cond (ltb room (wanted k t)) (no-room (wanted k t) (outcome (walk-all t probing tt)))
     (found (outcome (walk-all t (holding (wanted k t) (t .points) q) [])))))
+
+abbrev pub scan-answer : List Float → Coord → ℕ → ℕ → Answer
+scan-answer points q k room =
+    cond (ltb 0 (refusal points q)) (refused (refusal points q) 0)
+    (cond (eqb (min k (size points)) 0) (hits [])
+    (cond (ltb room (min k (size points))) (refused 8 (min k (size points)))
+    (hits (nearest-k k points q))))
