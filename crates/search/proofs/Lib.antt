@@ -8,3 +8,4 @@ pub mod Own
 pub mod Steps
 pub mod Fronts
 pub mod Written
+pub mod Answered

@@ -3,3 +3,4 @@ pub mod Walk
 pub mod Order
 pub mod Refusal
 pub mod Result
+pub mod Answer
