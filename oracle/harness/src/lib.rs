@@ -1,0 +1,7 @@
+//! The original, this library and a plain scan side by side.
+
+pub mod original;
+#[cfg(ours)]
+pub mod ours;
+pub mod random;
+pub mod rule;
