@@ -1,5 +1,6 @@
 //! The original, this library and a plain scan side by side.
 
+pub mod maps;
 pub mod original;
 #[cfg(ours)]
 pub mod ours;
