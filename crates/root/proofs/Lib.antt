@@ -5,3 +5,4 @@ mod Halfway
 pub mod Floats
 pub mod Unique
 pub mod Worked
+pub mod NoNan

@@ -1,0 +1,2 @@
+-- Laws that the proofs and the layers above cite.
+pub mod Laws
