@@ -1,3 +1,5 @@
+-- `build::build_recursive` meets its contract: a leaf by `leaf-done`, a branch from its two subtrees by `branch-done`
+-- (`Step.antt`). The measure is the part's count. Assumes nothing.
 use mathlib.Core.Path.{_≡_, refl, sym, ap, _∙_, subst}
 use mathlib.Core.List.{List, _++_}
 use Prim.Native.Nat.{ℕ, _<_, _*_, _+_, _≤_, _-_, _/_}
