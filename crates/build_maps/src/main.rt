@@ -5,12 +5,12 @@ mod maps;
 use libc::STDIN_FILENO;
 
 fn main() {
-    let mut text = [0u8; 262144];
+    let mut text = [0u8; 131072];
     let n = io::read_full(STDIN_FILENO, &mut text);
     let mut points = [0.0; 1024];
     let mut indices = [0u32; 512];
-    let mut boxes = [0.0; 6144];
-    let mut links = [0u32; 4096];
+    let mut boxes = [0.0; 1536];
+    let mut links = [0u32; 1024];
     maps::print_all(
         &text[..n],
         &mut points,

@@ -1,3 +1,4 @@
+-- `build::axis_of` meets its contract: the test is the definition's. Assumes nothing.
 use mathlib.Core.Path.{sym, ap}
 use mathlib.Core.Bool.{Bool, cond}
 use Prim.Native.Nat.{ℕ}

@@ -1,3 +1,5 @@
+-- `build::box_of` meets its contract: after k turns the ends are the tight ones of the first k entries (`Boxes.antt`).
+-- Assumes nothing.
 use Prim.Native.Nat.{_-_}
 use native.Mathlib.Omega.{arith}
 use lib.ListN.{length}

@@ -1,3 +1,5 @@
+-- `build::build_whole` meets its contract: the recursion over the numbered indices leaves the built tree (`Whole.antt`).
+-- Assumes nothing.
 use mathlib.Core.Path.{_≡_, sym, ap, _∙_, subst}
 use mathlib.Core.List.{List, _++_}
 use Prim.Native.Nat.{ℕ, _<_, _/_}

@@ -1,3 +1,4 @@
+-- `build::high_of` meets its contract, as `low_of` does. Assumes nothing.
 use mathlib.Core.Path.{sym, subst}
 use lib.Dec.{T}
 use borrow.Author.Needs.{needs}

@@ -1,3 +1,4 @@
+-- `build::low_of` meets its contract: where the order of numbers does not settle it, the keys do (`Boxes.antt`). Assumes nothing.
 use mathlib.Core.Path.{sym, subst}
 use lib.Dec.{T}
 use borrow.Author.Needs.{needs}

@@ -1,3 +1,4 @@
+-- `build::number` meets its contract: after i turns, 0 to i - 1 stand each once (`Numbering.antt`). Assumes nothing.
 use mathlib.Core.Path.{_≡_, refl, subst}
 use Prim.Native.Nat.{ℕ, _≤_, _-_}
 use native.Mathlib.Omega.{arith}

@@ -1,3 +1,4 @@
+-- `build::put_box` meets its contract (`Rows.antt`). Assumes nothing.
 use native.Mathlib.Omega.{arith}
 use lib.ListN.{length-set}
 use borrow.Author.Needs.{needs}
