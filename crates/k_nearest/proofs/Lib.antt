@@ -4,4 +4,5 @@ pub mod Filled
 pub mod Entry
 pub mod Keep
 pub mod Tied
+pub mod Full
 pub mod Promise

@@ -3,20 +3,21 @@
 --   nearest-k-length    and the scan finds min(k, n) points
 --   nine-unaccepted     9 comes only over a tree that is not accepted
 --   hits-own            over any tree at all each hit is a point below n, at that point's own squared distance
+--   hits-length         and hits are min(k, n) in number
 --   outcomes-unique     any two outcomes that the contract permits for one input are the same
 -- By the law of all queries, and by the uniqueness of the root. Assumes nothing.
 use mathlib.Core.Path.{_≡_, refl, sym, ap, _∙_, subst}
 use mathlib.Core.Logic.{_⊎_, inl, inr}
 use mathlib.Core.List.{List, [], _∷_}
 use mathlib.Core.Bool.{Bool, true, false, _&&_, cond}
-use Prim.Native.Nat.{ℕ, zero, suc, _%_, _≤_, _<_, min}
+use Prim.Native.Nat.{ℕ, zero, suc, _+_, _-_, _%_, _≤_, _<_, min}
 use native.Mathlib.Omega.{arith}
 use lib.Dec.{T, eqb, ltb}
 use lib.ListN.{length, length-take}
 use lib.Seq.{take-all}
 use lib.Ieee.{Float, nan, lt}
 use lib.Ieee.Scale.{finite}
-use borrow.Author.Tests.{eqb-false, ltb-true, ltb-false, lt-ltb}
+use borrow.Author.Tests.{eqb-true, eqb-false, ltb-true, ltb-false, lt-ltb}
 use Rattle.distance.specs.Distance.{bound}
 use Rattle.distance.specs.declared.Bounds.{Bounds}
 use Rattle.distance.specs.declared.Coord.{Coord}
@@ -34,9 +35,10 @@ use Rattle.search.proofs.Insert.{Each}
 use Rattle.search.proofs.Written.{Held}
 use Rattle.search.proofs.Answered.{answers-unique}
 use Rattle.heap.specs.Heap.{blank}
-use Rattle.heap.proofs.Each.{offer-each, heap-sort-each}
+use Rattle.heap.proofs.Each.{offer-each, heap-sort-each, heap-sort-size}
 use Rattle.k_nearest.specs.Scan.{insert, keep, nearest-k}
 use Rattle.k_nearest.specs.Query.{wanted, over-top, holding, probing, sorted, found, no-room, answer, scan-answer}
+use Rattle.k_nearest.proofs.Full.{walk-holds}
 use Rattle.k_nearest.proofs.Tied.{tied-sorted, Ended, knn-ends}
 
 -- ---- the scan keeps as many as there are, and k at most
@@ -156,27 +158,50 @@ walk-own t q k o some = go (ltb (length (t .indices)) (count t)) refl
     go true e = tt
     go false e = walk-after t (holding k (t .points) q) (λ s. s ≡ []) (Each (Own t q)) step step opens (ltb-false (length (t .indices)) (count t) e) (count t) 0 0 (count t) some (omega arith) [] (inl refl)
 
-pub hits-own : (t : Tree) (q : Coord) (k room : ℕ) (l : List Best) → answer t q k room ≡ hits l → Each (Own t q) l
-hits-own t q k room l h = go (ltb 0 (refusal (t .points) q)) (eqb (wanted k t) 0) refl (ltb room (wanted k t)) h
+walk-full : (t : Tree) (q : Coord) (k : ℕ) → 0 < k → k ≤ count t → After (λ z. length z ≡ k) (walk-all t (holding k (t .points) q) [])
+walk-full t q k o h = go (ltb (length (t .indices)) (count t)) refl
   where
-    all : (w : Walk (List Best)) → After (Each (Own t q)) w → found (outcome w) ≡ hits l → Each (Own t q) l
-    all damage o e = let z : _≡_ {A = ℕ} 0 1 = cc in absurd (omega arith)
-    all (done s n d) o e = let g : sorted s ≡ l = cc in subst (Each (Own t q)) g (heap-sort-each before blank (Own t q) (length s) s (omega arith) o)
+    all : (w : Walk (List Best)) → After (λ z. length z ≡ min k (0 + (count t - 0))) w → After (λ z. length z ≡ k) w
+    all damage x = tt
+    all (done z n d) x = omega arith
 
-    go : (a b : Bool) → eqb (wanted k t) 0 ≡ b → (c : Bool)
-        → cond a (refused (refusal (t .points) q) 0)
-        (cond b (hits []) (cond c (no-room (wanted k t) (outcome (walk-all t probing tt))) (found (outcome (walk-all t (holding (wanted k t) (t .points) q) []))))) ≡ hits l
-        → Each (Own t q) l
-    go true b f c h = let z : _≡_ {A = ℕ} 0 1 = cc in absurd (omega arith)
-    go false true f c h = let g : [] ≡ l = cc in subst (Each (Own t q)) g tt
-    go false false f true h = no (outcome (walk-all t probing tt)) h
-      where
-        no : (g : Got Unit) → no-room (wanted k t) g ≡ hits l → Each (Own t q) l
-        no broken h = let z : _≡_ {A = ℕ} 0 1 = cc in absurd (omega arith)
-        no (got s) h = let z : _≡_ {A = ℕ} 0 1 = cc in absurd (omega arith)
-    go false false f false h =
-        let n = eqb-false (wanted k t) 0 f in
-        all (walk-all t (holding (wanted k t) (t .points) q) []) (walk-own t q (wanted k t) (omega arith) (omega arith)) h
+    go : (b : Bool) → ltb (length (t .indices)) (count t) ≡ b → After (λ z. length z ≡ k) (cond b damage (walk t (holding k (t .points) q) (count t) 0 0 (count t) []))
+    go true e = tt
+    go false e = all (walk t (holding k (t .points) q) (count t) 0 0 (count t) []) (walk-holds t q k o (ltb-false (length (t .indices)) (count t) e) (count t) 0 0 (count t) (omega arith) (omega arith) [] (omega arith))
+
+after-got : (P : List Best → Type 0) (w : Walk (List Best)) (s : List Best) → After P w → outcome w ≡ got s → P s
+after-got P damage s h e = let z : _≡_ {A = ℕ} 0 1 = cc in absurd (omega arith)
+after-got P (done z n d) s h e = let g : z ≡ s = cc in subst P g h
+
+-- hits are none where none are wanted, or come from the walk's end
+module _ (t : Tree) (q : Coord) (k room : ℕ) (l : List Best) (h : answer t q k room ≡ hits l) where
+  of-hits : (P : List Best → Type 0) → (wanted k t ≡ 0 → P []) → (0 < wanted k t → (s : List Best) → outcome (walk-all t (holding (wanted k t) (t .points) q) []) ≡ got s → P (sorted s)) → P l
+  of-hits P none some = go (ltb 0 (refusal (t .points) q)) (eqb (wanted k t) 0) refl (ltb room (wanted k t)) h
+    where
+      end : (g : Got (List Best)) → outcome (walk-all t (holding (wanted k t) (t .points) q) []) ≡ g → 0 < wanted k t → found g ≡ hits l → P l
+      end broken x o e = let z : _≡_ {A = ℕ} 0 1 = cc in absurd (omega arith)
+      end (got s) x o e = let g : sorted s ≡ l = cc in subst P g (some o s x)
+
+      no : (g : Got Unit) → no-room (wanted k t) g ≡ hits l → P l
+      no broken h = let z : _≡_ {A = ℕ} 0 1 = cc in absurd (omega arith)
+      no (got s) h = let z : _≡_ {A = ℕ} 0 1 = cc in absurd (omega arith)
+
+      go : (a b : Bool) → eqb (wanted k t) 0 ≡ b → (c : Bool)
+          → cond a (refused (refusal (t .points) q) 0)
+          (cond b (hits []) (cond c (no-room (wanted k t) (outcome (walk-all t probing tt))) (found (outcome (walk-all t (holding (wanted k t) (t .points) q) []))))) ≡ hits l
+          → P l
+      go true b f c h = let z : _≡_ {A = ℕ} 0 1 = cc in absurd (omega arith)
+      go false true f c h = let g : [] ≡ l = cc in subst P g (none (eqb-true (wanted k t) 0 f))
+      go false false f true h = no (outcome (walk-all t probing tt)) h
+      go false false f false h = let n = eqb-false (wanted k t) 0 f in end (outcome (walk-all t (holding (wanted k t) (t .points) q) [])) refl (omega arith) h
+
+  pub hits-own : Each (Own t q) l
+  hits-own = of-hits (Each (Own t q)) (λ e. tt)
+      (λ o s e. heap-sort-each before blank (Own t q) (length s) s (omega arith) (after-got (Each (Own t q)) (walk-all t (holding (wanted k t) (t .points) q) []) s (walk-own t q (wanted k t) o (omega arith)) e))
+
+  pub hits-length : length l ≡ wanted k t
+  hits-length = of-hits (λ z. length z ≡ wanted k t) (λ e. sym e)
+      (λ o s e. heap-sort-size before blank (length s) s ∙ after-got (λ z. length z ≡ wanted k t) (walk-all t (holding (wanted k t) (t .points) q) []) s (walk-full t q (wanted k t) o (omega arith)) e)
 
 -- ---- one outcome
 pub outcomes-unique : (t : Tree) (q : Coord) (k room : ℕ) (is₀ is js : List ℕ) (ds₀ ds es : List Float) (r s : Found)

@@ -1,6 +1,6 @@
 -- The k-nearest query: its walk, and what it answers for every input whatsoever.
 --   place x y           where the query stands
---   wanted k t          how many hits there are to be: min(k, n)
+--   wanted k t          how many hits there are to be, and the most that are held: min(k, n). Once n are held, all are met
 --   over held k top d   of so many held, k are, and d is above top
 --   over-top k s d      the heap s is full, and d is above its first, the last of the k held
 --   holding k points q  the query whose state is a heap of at most k points

@@ -1,5 +1,14 @@
-// The k nearest points of a place, nearest first, where two are equally far the lower index first. The walk keeps a
-// heap of the nearest so far in the two result slices, and passes over each node that is farther than all of k held.
+// The k nearest points of a place, nearest first; of two that are equally far, the lower index first.
+//
+// The walk keeps a heap of the nearest so far in the two result slices, squared distances in the distance slice, and passes
+// over each node that is farther than the last of k held. Then the heap is sorted, and roots are taken. Nothing is reserved,
+// whatever k is. Order is by squared distance: two that round to one root stand as their squares do.
+//
+// `nearest_neighbours` promises one outcome for every input, whatever the slices hold (specs/Query); over an accepted tree
+// it is that of a plain scan (specs/Scan), and over any tree hits are min(k, n) points at their own distances (proofs/Promise).
+//
+//     nearest_neighbours(&points, &indices, &boxes, &links, 0.0, 4.0, 3, &mut near, &mut distances)
+//     over (0,0) (3,4) (6,8) (-3,4): Hits(3), with 1, 3, 0 at 3, 3, 4
 use distance::Coord;
 use search::Found;
 use tree::Kind;
@@ -243,6 +252,7 @@ fn probe_all(points: &[f64], indices: &[u32], boxes: &[f64], links: &[u32]) -> b
     probe(points, indices, boxes, links, 0, 0, n)
 }
 
+// The lesser of two.
 fn least(a: usize, b: usize) -> usize
     ensures { λ r. ⌜ r ≡ min a b ⌝ }
 {
