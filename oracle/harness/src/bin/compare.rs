@@ -42,7 +42,14 @@ impl Table {
         self.row(name).wrong += 1;
         self.shown += 1;
         if self.shown <= 20 {
-            eprintln!("compare: {name}: {what}");
+            // Long lists are cut; the map and the question stand at the end.
+            let text: Vec<char> = what.chars().collect();
+            if text.len() > 400 {
+                let (head, tail): (String, String) = (text[..200].iter().collect(), text[text.len() - 200..].iter().collect());
+                eprintln!("compare: {name}: {head} .. {tail}");
+            } else {
+                eprintln!("compare: {name}: {what}");
+            }
         }
     }
 }
