@@ -1,7 +1,8 @@
-//! compare: this library, the original and the plain scan over the same questions. Every answer of the library is held
+//! compare [quick] [alone]: this library, the original and the plain scan over the same questions. Every answer of the library is held
 //! against the scan, ties and buffers' order included. Over the domain (maps.rs) it is also held against the original:
 //! distances bit for bit, indices where no two points are equally far, radius hits as sets, labels. Outside the domain the
-//! original's departures from the scan are counted, and are no error. Exits 1 if anything differs.
+//! original's departures from the scan are counted, and are no error. Exits 1 if anything differs. `quick` asks a twentieth;
+//! `alone` lets it run where the library is not linked.
 
 use harness::maps::{self, EDGE, KINDS, SORTS};
 use harness::original;
@@ -42,7 +43,14 @@ impl Table {
         self.row(name).wrong += 1;
         self.shown += 1;
         if self.shown <= 20 {
-            eprintln!("compare: {name}: {what}");
+            // Long lists are cut; the map and the question stand at the end.
+            let text: Vec<char> = what.chars().collect();
+            if text.len() > 400 {
+                let (head, tail): (String, String) = (text[..200].iter().collect(), text[text.len() - 200..].iter().collect());
+                eprintln!("compare: {name}: {head} .. {tail}");
+            } else {
+                eprintln!("compare: {name}: {what}");
+            }
         }
     }
 }
@@ -388,7 +396,17 @@ fn label_maps(maps: usize, t: &mut Table, r: &mut Random) {
 }
 
 fn main() {
-    let quick = std::env::args().nth(1).is_some_and(|a| a == "quick");
+    let words: Vec<String> = std::env::args().skip(1).collect();
+    if let Some(other) = words.iter().find(|w| *w != "quick" && *w != "alone") {
+        eprintln!("compare: not a word of it: {other} (quick, alone)");
+        exit(2);
+    }
+    let quick = words.iter().any(|w| w == "quick");
+    // Without the library a run would pass and have said nothing of it.
+    if !cfg!(ours) && !words.iter().any(|w| w == "alone") {
+        eprintln!("compare: the library is not linked; `compare alone` holds the original against the scan");
+        exit(2);
+    }
     let part = if quick { 20 } else { 1 };
     let mut t = Table { rows: vec![], shown: 0 };
     let mut r = Random::new(20_260_101);
