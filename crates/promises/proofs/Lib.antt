@@ -1,0 +1,2 @@
+-- The theorems.
+pub mod Worked

@@ -1,0 +1,2 @@
+-- The worked examples, as statements about the definitions.
+pub mod Examples
