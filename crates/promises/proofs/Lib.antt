@@ -1,2 +1,3 @@
 -- The theorems.
 pub mod Worked
+pub mod Demands

@@ -31,16 +31,37 @@ root-of-fifty-two = (tt, record { above = lit< tt; below = lit< tt })
 -- ---- the table
 pub examples-hold : Each examples
 unfolding ofBits d2 sq add sub mul le lt eq l.near l.hits all any implies coreb within pairs rises beside borders passes
-examples-hold =
-    (record { answered-is = refl; number-is = refl; indices-are = refl; distances-are = more root-of-nine none },
-    ((refl, more root-of-nine (more root-of-nine (more root-of-sixteen none))),
-    ((refl, more root-of-nine (more root-of-nine (more root-of-sixteen (more root-of-fifty-two none)))),
-    (refl,
-    (refl,
-    (refl,
-    (passes-sound _ _ _ 1 _ tt,
-    (passes-sound _ _ _ 1 _ tt,
-    (passes-sound _ _ _ 1 _ tt,
-    (root-of-four,
-    (root-of-two,
-    tt)))))))))))
+examples-hold = (
+  record { answered-is = refl; number-is = refl; indices-are = refl; distances-are = more root-of-nine none },
+  (
+    (refl, more root-of-nine (more root-of-nine (more root-of-sixteen none))),
+    (
+      (refl, more root-of-nine (more root-of-nine (more root-of-sixteen (more root-of-fifty-two none)))),
+      (
+        refl,
+        (
+          refl,
+          (
+            refl,
+            (
+              passes-sound _ _ _ 1 _ tt,
+              (
+                passes-sound _ _ _ 1 _ tt,
+                (
+                  passes-sound _ _ _ 1 _ tt,
+                  (
+                    root-of-four,
+                    (
+                      root-of-two,
+                      tt,
+                    ),
+                  ),
+                ),
+              ),
+            ),
+          ),
+        ),
+      ),
+    ),
+  ),
+)

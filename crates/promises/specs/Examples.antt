@@ -116,7 +116,7 @@ examples =
     ∷ labels (zero ∷ zero ∷ one ∷ zero ∷ zero ∷ one ∷ ten ∷ ten ∷ eleven ∷ ten ∷ ten ∷ eleven ∷ []) two 2 (0 ∷ 0 ∷ 0 ∷ 1 ∷ 1 ∷ 1 ∷ [])
     ∷ labels (zero ∷ zero ∷ one ∷ zero ∷ zero ∷ one ∷ hundred ∷ hundred ∷ []) two 2 (0 ∷ 0 ∷ 0 ∷ noise ∷ [])
     ∷ labels (zero ∷ zero ∷ one ∷ zero ∷ one-and-half ∷ zero ∷ two ∷ zero ∷ minus-one ∷ zero ∷ minus-one-and-half ∷ zero ∷ minus-two ∷ zero ∷ [])
-        one 4 (0 ∷ 0 ∷ 0 ∷ 0 ∷ 1 ∷ 1 ∷ 1 ∷ [])
+    one 4 (0 ∷ 0 ∷ 0 ∷ 0 ∷ 1 ∷ 1 ∷ 1 ∷ [])
     ∷ root four two
     ∷ root two (f 0x3ff6_a09e_667f_3bcd)
     ∷ []
