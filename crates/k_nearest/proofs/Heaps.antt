@@ -2,14 +2,14 @@
 -- definition's. Assumes nothing.
 use mathlib.Core.Path.{_≡_, sym, ap, _∙_, refl, subst}
 use mathlib.Core.List.{List}
-use mathlib.Core.Bool.{Bool, true, false, cond}
+use mathlib.Core.Bool.{Bool, true, false}
 use Prim.Native.Nat.{ℕ, _≤_, _<_}
 use native.Mathlib.Nat.{le-trans, le-refl}
 use native.Mathlib.Omega.{arith}
 use lib.Dec.{ltb}
 use lib.ListN.{length, getD}
 use lib.Seq.{getD-take, length-take-le}
-use lib.Ieee.{Float, nan, lt}
+use lib.Ieee.{Float, nan}
 use borrow.Author.Tests.{lt-ltb, le-ltb, ltb-false}
 use Rattle.tree.specs.Accepted.{Tree, count}
 use Rattle.search.specs.Walk.{Search, Got, broken, got, outcome, Walks, walk-all}
@@ -49,9 +49,9 @@ over-is k held is ds d R =
     top : k ≤ held → getD (heap-of held is ds) 0 blank .d2 ≡ getD ds 0 nan
     top h = ap (λ (p : Best). p .d2) (getD-take held (pairs is ds) 0 blank (omega (arith, R .some)) ∙ pairs-at is ds 0 (omega (arith, R .some, R .in-i)) (omega (arith, R .some, R .in-d)))
 
-    go : (b : Bool) → ltb held k ≡ b → cond b false (lt (getD (heap-of held is ds) 0 blank .d2) d) ≡ cond b false (lt (getD ds 0 nan) d)
-    go true e = refl
-    go false e = ap (λ (x : Float). lt x d) (top (ltb-false held k e))
+    go : (b : Bool) → ltb held k ≡ b → over held k (getD (heap-of held is ds) 0 blank .d2) d ≡ over held k (getD ds 0 nan) d
+    go true e = rw e
+    go false e = ap (λ (x : Float). over held k x d) (top (ltb-false held k e))
 
 -- what the code found of a node's bound is what the definition says of skipping it
 pub skip-is : (k held : ℕ) (is : List ℕ) (ds : List Float) → Room k held is ds → (d w : Float) (o z : Bool) → w ≡ d → o ≡ over held k (getD ds 0 nan) w → o ≡ z → over-top k (heap-of held is ds) d ≡ z
