@@ -1,17 +1,16 @@
 -- Neighbours, cores and chains: nearness is mutual (`near-comm`), by d2-comm; `hits` holds exactly what passes
--- (`hits-at`, `hits-in`) and no more than there is (`hits-length`); whether a point is a core is decided (`core?`); chains
+-- (`hits-sound`, `hits-complete`, `hits-at`) and no more than there is (`hits-length`); whether a point is a core is decided (`core?`); chains
 -- are put together and turned round (`chain-trans`, `chain-back`). Assumes nothing.
-use mathlib.Core.Path.{_≡_, refl, sym, ap, _∙_, subst}
+use mathlib.Core.Path.{_≡_, refl, sym, ap, subst}
 use mathlib.Core.Logic.{_⊎_, inl, inr}
 use mathlib.Core.Bool.{Bool, true, false, cond}
-use mathlib.Core.List.{List, [], _∷_, _++_}
-use Prim.Native.Nat.{ℕ, zero, suc, _+_, _≤_, _<_}
-use native.Mathlib.Nat.{eq-or-lt-of-le, le-of-suc-le-suc, lt-of-not-le}
-use native.Mathlib.Decide.{decLe, decLt}
+use mathlib.Core.List.{List, [], _∷_, List·Memᴰ, List·Memᴰ·head, List·Memᴰ·tail, List·Memᴰ·not-nil, List·Memᴰ·append-cases, List·Memᴰ·eq-of-singleton, Memᴰ·append-left, Memᴰ·append-right}
+use Prim.Native.Nat.{ℕ, zero, suc, _≤_, _<_}
+use native.Mathlib.Nat.{eq-or-lt-of-le, le-of-suc-le-suc, not-suc-le-zero}
+use native.Mathlib.Decide.{decLe}
 use native.Mathlib.Omega.{arith}
 use lib.Dec.{T}
-use lib.ListN.{length, getD, length-append, List·getD-append}
-use lib.Seq.{getD-append-add}
+use lib.ListN.{length, getD, length-append}
 use lib.Ieee.{Float, le}
 use Rattle.distance.specs.Distance.{sq}
 use Rattle.distance.proofs.Same.{d2-comm}
@@ -32,45 +31,36 @@ hits-length p (suc k) = simp length-append (omega (arith, hits-length p k, one-m
     one-more true = omega arith
     one-more false = omega arith
 
-pub hits-at : (p : ℕ → Bool) (k n : ℕ) → n < length (hits p k) → (getD (hits p k) n 0 < k) × T (p (getD (hits p k) n 0))
+pub hits-sound : (p : ℕ → Bool) (k : ℕ) {j : ℕ} → List·Memᴰ j (hits p k) → (j < k) × T (p j)
 unfolding hits
-hits-at p zero n o = absurd (none o)
+hits-sound p zero h = absurd (List·Memᴰ·not-nil h)
+hits-sound p (suc k) {j} h = elim (List·Memᴰ·append-cases (hits p k) h) [
+  | inl a ↦ let r = hits-sound p k a in (omega (arith, r .0), r .1)
+  | inr b ↦ last (p k) refl b
+]
   where
-    none : n < 0 → ⊥
-    none o = omega arith
-hits-at p (suc k) n o = go (p k) refl o (hits-at p k n)
-  where
-    old : (b : Bool) → n < length (hits p k) → (getD (hits p k) n 0 < k) × T (p (getD (hits p k) n 0)) → (getD (hits p k ++ cond b (k ∷ []) []) n 0 < suc k) × T (p (getD (hits p k ++ cond b (k ∷ []) []) n 0))
-    old b l r = subst (λ (u : ℕ). (u < suc k) × T (p u)) (sym (List·getD-append (hits p k) (cond b (k ∷ []) []) 0 n l)) (omega (arith, r .0), r .1)
+    last : (b : Bool) → p k ≡ b → List·Memᴰ j (cond b (k ∷ []) []) → (j < suc k) × T (p j)
+    last true e m = let z = List·Memᴰ·eq-of-singleton m in (omega (arith, z), subst (λ (u : ℕ). T (p u)) (sym z) (subst T (sym e) tt))
+    last false e m = absurd (List·Memᴰ·not-nil m)
 
-    new : (b : Bool) → p k ≡ b → length (hits p k) ≤ n → n < length (hits p k ++ cond b (k ∷ []) []) → (getD (hits p k ++ cond b (k ∷ []) []) n 0 < suc k) × T (p (getD (hits p k ++ cond b (k ∷ []) []) n 0))
-    new true e l o =
-        let at-end : n ≡ length (hits p k) + 0 = omega (arith, simp length-append at o) in
-        let is : getD (hits p k ++ (k ∷ [])) n 0 ≡ k = ap (λ (u : ℕ). getD (hits p k ++ (k ∷ [])) u 0) at-end ∙ getD-append-add (hits p k) (k ∷ []) 0 0 in
-        subst (λ (u : ℕ). (u < suc k) × T (p u)) (sym is) (omega arith, subst T (sym e) tt)
-    new false e l o = absurd (out (simp length-append at o))
-      where
-        out : n < length (hits p k) + 0 → ⊥
-        out h = omega arith
-
-    go : (b : Bool) → p k ≡ b → n < length (hits p k ++ cond b (k ∷ []) []) → (n < length (hits p k) → (getD (hits p k) n 0 < k) × T (p (getD (hits p k) n 0)))
-        → (getD (hits p k ++ cond b (k ∷ []) []) n 0 < suc k) × T (p (getD (hits p k ++ cond b (k ∷ []) []) n 0))
-    go b e o r = elim (decLt n (length (hits p k))) [ yes l ↦ old b l (r l) | no f ↦ new b e (le-of-suc-le-suc (lt-of-not-le f)) o ]
-
-pub hits-in : (p : ℕ → Bool) (k j : ℕ) → j < k → T (p j) → (n : ℕ) × (n < length (hits p k)) × (getD (hits p k) n 0 ≡ j)
+pub hits-complete : (p : ℕ → Bool) (k j : ℕ) → j < k → T (p j) → List·Memᴰ j (hits p k)
 unfolding hits
-hits-in p zero j o v = absurd (none o)
+hits-complete p zero j o v = absurd (not-suc-le-zero o)
+hits-complete p (suc k) j o v = elim (eq-or-lt-of-le (le-of-suc-le-suc o)) [
+  | inl e ↦ Memᴰ·append-right (hits p k) (last (p k) (subst (λ (u : ℕ). T (p u)) e v) e)
+  | inr b ↦ Memᴰ·append-left (cond (p k) (k ∷ []) []) (hits-complete p k j b v)
+]
   where
-    none : j < 0 → ⊥
-    none o = omega arith
-hits-in p (suc k) j o v = go (eq-or-lt-of-le (le-of-suc-le-suc o)) (λ b. hits-in p k j b v)
-  where
-    last : (b : Bool) → T b → (n : ℕ) × (n < length (hits p k ++ cond b (k ∷ []) [])) × (getD (hits p k ++ cond b (k ∷ []) []) n 0 ≡ k)
-    last true t = (length (hits p k) + 0, simp length-append (omega arith), getD-append-add (hits p k) (k ∷ []) 0 0)
+    last : (b : Bool) → T b → j ≡ k → List·Memᴰ j (cond b (k ∷ []) [])
+    last true t e = List·Memᴰ·head e
 
-    go : (j ≡ k) ⊎ (j < k) → (j < k → (n : ℕ) × (n < length (hits p k)) × (getD (hits p k) n 0 ≡ j)) → (n : ℕ) × (n < length (hits p k ++ cond (p k) (k ∷ []) [])) × (getD (hits p k ++ cond (p k) (k ∷ []) []) n 0 ≡ j)
-    go (inl e) r = let w = last (p k) (subst (λ (u : ℕ). T (p u)) e v) in (w .0, w .1, w .2 ∙ sym e)
-    go (inr b) r = let w = r b in (w .0, simp length-append (omega (arith, w .1)), List·getD-append (hits p k) (cond (p k) (k ∷ []) []) 0 (w .0) (w .1) ∙ w .2)
+mem-at : (l : List ℕ) (x d : ℕ) → x < length l → List·Memᴰ (getD l x d) l
+mem-at [] x d o = absurd (not-suc-le-zero o)
+mem-at (a ∷ l) zero d o = List·Memᴰ·head refl
+mem-at (a ∷ l) (suc x) d o = List·Memᴰ·tail (mem-at l x d (le-of-suc-le-suc o))
+
+pub hits-at : (p : ℕ → Bool) (k x : ℕ) → x < length (hits p k) → getD (hits p k) x 0 < k
+hits-at p k x o = hits-sound p k (mem-at (hits p k) x 0 o) .0
 
 -- ---- cores and chains
 pub core? : (near : ℕ → ℕ → Bool) (n m i : ℕ) → i < n → Dec (Core near n m i)
