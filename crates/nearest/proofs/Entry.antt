@@ -9,10 +9,9 @@ use borrow.Author.Tests.{lt-ltb, le-ltb, eq-eqb, ne-eqb}
 use Rattle.root.specs.Root.{Root}
 use Rattle.distance.specs.declared.Coord.{Coord}
 use Rattle.tree.specs.Accepted.{Tree, count}
-use Rattle.search.specs.Walk.{Walk, damage, done, walk, walk-all, Walks, Got, broken, got, outcome}
+use Rattle.search.specs.Walk.{Walk, damage, done, walk, Walks, broken, got, outcome}
 use Rattle.search.specs.Refusal.{refusal}
-use Rattle.search.specs.Result.{Roots, none, more}
-use Rattle.search.specs.Order.{best}
+use Rattle.search.specs.Result.{none, more}
 use Rattle.search.specs.declared.Best.{Best}
 use Rattle.nearest.specs.declared.Nearest.the-variants.{Hit, Empty, Refused}
 use Rattle.nearest.specs.Nearest as n

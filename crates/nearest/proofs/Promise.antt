@@ -8,7 +8,7 @@
 -- By the law of all queries, and by the uniqueness of the root. Assumes nothing.
 use mathlib.Core.Path.{_≡_, refl, sym, ap, _∙_, subst}
 use mathlib.Core.Logic.{_⊎_, inl, inr}
-use mathlib.Core.List.{List, [], _∷_}
+use mathlib.Core.List.{[], _∷_}
 use mathlib.Core.Bool.{Bool, true, false, _&&_, cond}
 use Prim.Native.Nat.{ℕ, zero, suc, _%_, _≤_, _<_}
 use native.Mathlib.Omega.{arith}
@@ -16,14 +16,13 @@ use lib.Dec.{T, eqb, ltb}
 use lib.ListN.{length}
 use lib.Ieee.{Float, nan, inf, fin, binary64, fits, lt}
 use lib.Ieee.Scale.{finite}
-use borrow.Author.Tests.{eqb-true, eq-eqb, ltb-false, le-ltb, ne-eqb}
+use borrow.Author.Tests.{eqb-true, eq-eqb, ltb-false}
 use Rattle.distance.specs.Distance.{bound}
 use Rattle.distance.specs.declared.Bounds.{Bounds}
 use Rattle.distance.specs.declared.Coord.{Coord}
 use Rattle.tree.specs.Points.{limit}
 use Rattle.tree.specs.Accepted.{Tree, count, Accepted}
 use Rattle.root.specs.Root.{Root}
-use Rattle.root.proofs.Unique.{root-unique}
 use Rattle.search.specs.Walk.{Walk, damage, done, walk, walk-all, plain}
 use Rattle.search.specs.Order.{point, before}
 use Rattle.search.specs.Refusal.{refusal}
@@ -36,7 +35,7 @@ use Rattle.search.proofs.Written.{Held, roots-unique}
 use Rattle.nearest.specs.declared.Nearest.{Nearest}
 use Rattle.nearest.specs.declared.Nearest.the-variants.{Hit, Empty, Refused}
 use Rattle.nearest.specs.Nearest as n
-use Rattle.nearest.specs.Nearest.{better, nearest, Reply, hit, empty, refused, answer, replied, near, near-scan, told, number-of, hits-of, Says, Answers}
+use Rattle.nearest.specs.Nearest.{better, nearest, Reply, hit, empty, refused, answer, near, near-scan, told, number-of, Says, Answers}
 use Rattle.nearest.proofs.Least.{nearest-fair, none-good, none-last, Least, least}
 
 ends-answer : (g : Best) (w : Walk Best) → Ends g w → answer w ≡ hit g

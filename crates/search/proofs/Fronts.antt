@@ -2,10 +2,10 @@
 -- Zeros and roots are two cases of the one store, `front-more`. Assumes nothing.
 use mathlib.Core.Path.{_≡_, refl, sym, ap, _∙_, subst}
 use mathlib.Core.List.{List, [], _∷_, _++_, append-assoc, append-nil}
-use Prim.Native.Nat.{ℕ, zero, suc, _+_, _≤_, _<_}
+use Prim.Native.Nat.{ℕ, zero, suc, _+_, _<_}
 use native.Mathlib.Numerals.{add-one}
 use native.Mathlib.Omega.{arith}
-use lib.ListN.{length, getD, set, take, drop, replicate, length-append, drop-of-length-le}
+use lib.ListN.{length, getD, set, take, drop, replicate, drop-of-length-le}
 use lib.Seq.{drop-cons, set-at, take-suc, getD-append-seam, length-take-le}
 use lib.Ieee.{Float, nan}
 use Rattle.root.specs.Root.{Root}

@@ -1,42 +1,22 @@
 -- What a walk keeps over any tree at all, accepted or not: if the first point, and every later one, leaves P of the state, and
 -- nothing is passed over before the first, then a walk that meets no damage ends in P. By induction on the depth. Assumes nothing.
-use mathlib.Core.Path.{_≡_, refl, sym, ap, _∙_, subst}
+use mathlib.Core.Path.{_≡_, refl}
 use mathlib.Core.Logic.{_⊎_, inl, inr}
 use mathlib.Core.List.{List, [], _∷_}
 use mathlib.Core.Bool.{Bool, true, false, cond}
-use Prim.Native.Nat.{ℕ, zero, suc, _+_, _-_, _*_, _/_, _≤_, _<_}
+use Prim.Native.Nat.{ℕ, zero, suc, _-_, _≤_, _<_}
 use native.Mathlib.Omega.{arith}
-use lib.Dec.{T, ltb}
-use lib.Ieee.{Float, nan, inf, fin, lt}
-use lib.ListN.{length, getD, length-take, length-drop}
-use borrow.Author.Tests.{ltb-true, ltb-false}
-use Rattle.tree.specs.Node.{bounds, children, covers, kind, mid, part}
+use lib.Dec.{ltb}
+use lib.ListN.{length, length-take, length-drop}
+use borrow.Author.Tests.{ltb-true}
+use Rattle.tree.specs.Node.{bounds, kind, mid, part}
 use Rattle.tree.specs.Accepted.{Tree, count}
+use Rattle.tree.proofs.ChildNumbers.{branch-size}
 use Rattle.search.specs.Walk.{Search, Walk, damage, done, more, and-then, scan, leaf-scan, visit, walk}
 use Rattle.search.proofs.Whole.{part-is}
 use Rattle.distance.specs.declared.Bounds.{Bounds}
-use Rattle.distance.specs.declared.Coord.{Coord}
-use Rattle.search.specs.declared.Best.{Best}
 use Rattle.tree.specs.declared.Kind.{Kind}
 use Rattle.tree.specs.declared.Kind.the-variants.{Leaf, Branch, Damaged}
-
--- ---- a branch has two entries
-children-size : (size l r i j : ℕ) → children size l r ≡ Branch i j → 1 < size
-children-size size zero zero i j h = let z : _≡_ {A = ℕ} 0 1 = cc in absurd (omega arith)
-children-size size zero (suc r) i j h = let z : _≡_ {A = ℕ} 0 1 = cc in absurd (omega arith)
-children-size size (suc l) zero i j h = let z : _≡_ {A = ℕ} 0 1 = cc in absurd (omega arith)
-children-size size (suc l) (suc r) i j h = go (ltb 1 size) refl h
-  where
-    go : (b : Bool) → ltb 1 size ≡ b → cond b (Branch (suc l) (suc r)) Damaged ≡ Branch i j → 1 < size
-    go true e k = ltb-true 1 size e
-    go false e k = let z : _≡_ {A = ℕ} 0 1 = cc in absurd (omega arith)
-
-pub branch-size : (boxes : List Float) (links : List ℕ) (v a e i j : ℕ) → kind boxes links v a e ≡ Branch i j → 1 < e - a
-branch-size boxes links v a e i j h = go (covers boxes links v a e) h
-  where
-    go : (b : Bool) → cond b (children (e - a) (getD links (v * 4 + 2) 0) (getD links (v * 4 + 3) 0)) Damaged ≡ Branch i j → 1 < e - a
-    go true k = children-size (e - a) (getD links (v * 4 + 2) 0) (getD links (v * 4 + 3) 0) i j k
-    go false k = let z : _≡_ {A = ℕ} 0 1 = cc in absurd (omega arith)
 
 -- ---- what holds after a point, and is kept
 abbrev pub After : {S : Type 0} → (S → Type 0) → Walk S → Type 0

@@ -2,17 +2,15 @@
 -- Points of an accepted tree seen from a finite place have ranks of their own; and where a box's bound is above d, so is
 -- the d2 of each point in the box. By the laws of `distance`. Assumes nothing.
 use mathlib.Core.Path.{_≡_, refl, sym, ap, _∙_, subst}
-use mathlib.Core.Bool.{Bool, true, false, not, _&&_, _||_, cond}
-use Prim.Native.Nat.{ℕ, zero, suc, _+_, _-_, _*_, _/_, _^_, _≤_, _<_}
+use mathlib.Core.Bool.{Bool, true, false, not, _&&_, _||_}
+use Prim.Native.Nat.{ℕ, _+_, _*_, _^_, _≤_, _<_}
 use native.Mathlib.Omega.{arith}
-use lib.Dec.{T, leb, ltb, eqb}
-use lib.ListN.{length, getD}
-use lib.Ieee.{Float, nan, inf, fin, binary64, lt, le, eq, isNan, fits}
+use lib.Dec.{T, ltb}
+use lib.Ieee.{Float, inf, fin, binary64, lt, le, eq, isNan, fits}
 use borrow.Author.Tests.{lt-ltb, le-ltb, ltb-true, ltb-false}
 use Rattle.distance.specs.Distance.{bound}
 use lib.Ieee.Scale.{finite}
 use Rattle.distance.proofs.Mono.{d2-nonneg}
-use Rattle.distance.proofs.Box.{Axis}
 use Rattle.distance.proofs.Order.{lt-is-not-le, plain, nonneg-plain}
 use Rattle.distance.proofs.Prune.{le-self, prune-strict}
 use Rattle.distance.specs.TotalOrder.{key}

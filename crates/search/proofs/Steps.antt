@@ -7,7 +7,6 @@ use mathlib.Core.Bool.{Bool, true, false, cond}
 use Prim.Native.Nat.{ℕ, zero, suc, _+_, _-_, _≤_, _<_}
 use native.Mathlib.Numerals.{add-one}
 use native.Mathlib.Omega.{arith}
-use lib.Dec.{ltb}
 use lib.Ieee.{Float, lt, le}
 use lib.ListN.{length, getD, drop, drop-of-length-le}
 use lib.Seq.{drop-cons}
@@ -23,7 +22,7 @@ use Rattle.tree.specs.Accepted.{Tree, count}
 use Rattle.tree.specs.declared.Kind.{Kind}
 use Rattle.tree.specs.declared.Kind.the-variants.{Leaf, Branch, Damaged}
 use Rattle.search.specs.Walk.{Search, Walk, damage, done, more, and-then, scan, leaf-scan, visit, Got, broken, got, outcome, walk, Walks}
-use Rattle.search.proofs.Own.{branch-size}
+use Rattle.tree.proofs.ChildNumbers.{branch-size}
 
 pub outcome-more : {S : Type 0} (a b : ℕ) (w : Walk S) → outcome (more a b w) ≡ outcome w
 outcome-more a b damage = refl

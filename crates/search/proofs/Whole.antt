@@ -1,23 +1,19 @@
 -- The one law of all queries: over a sound tree, a walk that passes over only what makes no difference ends at the state of the plain scan. Assumes nothing.
 use mathlib.Core.Path.{_≡_, refl, sym, ap, _∙_, subst}
-use mathlib.Core.Logic.{_⊎_, inl, inr}
 use mathlib.Core.List.{List, [], _∷_, _++_, foldl, foldl-append}
 use mathlib.Core.Bool.{Bool, true, false, cond}
-use Prim.Native.Nat.{ℕ, zero, suc, _+_, _-_, _/_, _≤_, _<_}
+use Prim.Native.Nat.{ℕ, zero, suc, _+_, _-_, _≤_, _<_}
 use native.Mathlib.Nat.{sub-zero}
 use native.Mathlib.Omega.{arith}
-use lib.Dec.{leb, ltb, eqb}
 use lib.ListN.{length, getD, take, drop}
 use lib.Seq.{take-add, drop-drop, drop-cons}
 use borrow.Author.Tests.{lt-ltb, le-ltb}
 use Rattle.tree.specs.Points.{x, y}
-use Rattle.tree.specs.Node.{bounds, kind, mid, part}
+use Rattle.tree.specs.Node.{bounds, mid, part}
 use Rattle.tree.specs.Accepted.{Tree, count, Finite, Holds, Boxed, Sound, leaf, branch, Grown}
-use Rattle.search.specs.Walk.{Search, Walk, damage, done, more, and-then, scan, leaf-scan, visit, walk, walk-all, plain}
-use Rattle.search.proofs.Fold.{All, all-map, fold-ok, fold-swap, fold-all}
+use Rattle.search.specs.Walk.{Search, Walk, damage, done, more, and-then, scan, leaf-scan, walk, walk-all, plain}
+use Rattle.search.proofs.Fold.{All, fold-ok, fold-swap, fold-all}
 use Rattle.distance.specs.declared.Bounds.{Bounds}
-use Rattle.tree.specs.declared.Kind.{Kind}
-use Rattle.tree.specs.declared.Kind.the-variants.{Leaf, Branch, Damaged}
 
 -- What a query has to show: any two points may be swapped, a box that is passed over has only points that change nothing,
 -- and in a box that is taken whole each point makes of the state what it would if its distance were worked out.

@@ -6,7 +6,7 @@ use denote.Ref.{now}
 use Rattle.tree.specs.Points.{size}
 use Rattle.tree.specs.Accepted.{tree}
 use Rattle.search.specs.Walk.{scan, outcome}
-use Rattle.search.proofs.Own.{branch-size}
+use Rattle.tree.proofs.ChildNumbers.{branch-size}
 use Rattle.search.proofs.Steps.{at-damaged, at-leaf, left-damaged, left-then}
 use Rattle.k_nearest.specs.Query.{probing}
 use Rattle.k_nearest.specs.Inner.{probed}

@@ -1,6 +1,6 @@
 -- `nearest::nn_search` meets its contract: each way through it is the walk's at a node of that kind, and the part of a child
 -- is shorter than its parent's. Assumes nothing.
-use mathlib.Core.Path.{_≡_, sym, ap, _∙_}
+use mathlib.Core.Path.{sym, ap, _∙_}
 use mathlib.Core.List.{List}
 use Prim.Native.Nat.{ℕ, _<_, _-_}
 use denote.Ref.{now}
@@ -9,7 +9,7 @@ use Rattle.tree.specs.Points.{size}
 use Rattle.tree.specs.Accepted.{tree}
 use Rattle.search.specs.Walk.{scan, outcome}
 use Rattle.search.specs.Order.{best}
-use Rattle.search.proofs.Own.{branch-size}
+use Rattle.tree.proofs.ChildNumbers.{branch-size}
 use Rattle.search.proofs.Steps.{at-damaged, at-skip, at-leaf, left-damaged, left-then, right-damaged, right-then}
 use Rattle.nearest.specs.Nearest.{nearest}
 use Rattle.nearest.proofs.Cells.{celled-true, celled-false}

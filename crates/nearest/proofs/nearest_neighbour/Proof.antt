@@ -5,7 +5,6 @@ use borrow.Author.Tests.{not-true, not-false}
 use Rattle.tree.specs.Accepted.{tree}
 use Rattle.nearest.specs.Nearest.{at}
 use Rattle.nearest.proofs.Entry.{answers-refused, answers-empty, answers-short, answers-damaged, answers-found}
-use native.Mathlib.Omega.{arith}
 use borrow.Author.Needs.{needs}
 use Rattle.nearest.proofs.nearest_neighbour.Statement.{statement}
 use Rattle.nearest.proofs.nearest_neighbour.Tie as tie

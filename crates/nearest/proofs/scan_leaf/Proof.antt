@@ -15,10 +15,6 @@ use native.Mathlib.Omega.{arith}
 use borrow.Author.Needs.{needs}
 use Rattle.nearest.proofs.scan_leaf.Statement.{statement}
 use Rattle.nearest.proofs.scan_leaf.Tie as tie
-use Rattle.nearest.proofs.scan_leaf.Reads as reads
-use Rattle.nearest.proofs.scan_leaf.Lts as lts
-use Rattle.distance.proofs.coord_distance_sq.Reads as coord-distance-sq-reads
-use Rattle.nearest.proofs.offer.Reads as offer-reads
 
 abbrev Inv-loop : tie.InvT-loop
 Inv-loop points part q d2₀ index₀ k₀ d2 index k =

@@ -10,7 +10,7 @@ use Rattle.tree.specs.Points.{size}
 use Rattle.tree.specs.Node.{bounds, mid}
 use Rattle.tree.specs.Accepted.{tree}
 use Rattle.search.specs.Walk.{leaf-scan, outcome}
-use Rattle.search.proofs.Own.{branch-size}
+use Rattle.tree.proofs.ChildNumbers.{branch-size}
 use Rattle.search.proofs.Steps.{at-damaged, at-skip, at-leaf, left-damaged, left-then, far-is}
 use Rattle.radius.specs.Keeping.{held, keeping}
 use Rattle.radius.proofs.Tallies.{kept-damaged, kept-count, few-count, few-more, few-both, part-length}
