@@ -4,4 +4,3 @@ pub mod Unique
 pub mod Test
 pub mod Tables
 pub mod Exists
-pub mod Worked

@@ -1,32 +1,18 @@
 -- One outcome per input: any two answers that the definition permits for one input are equal, and so are the slices that
 -- they leave, distances being floats of 64 bits. By the root's own uniqueness. Assumes nothing.
-use mathlib.Core.Path.{_≡_, refl, sym, ap, _∙_, subst}
+use mathlib.Core.Path.{_≡_, sym, ap, _∙_, subst}
 use mathlib.Core.Bool.{Bool, true, false}
-use mathlib.Core.List.{List, [], _∷_, _++_}
+use mathlib.Core.List.{List, _++_}
 use Prim.Native.Nat.{ℕ, min}
-use lib.Dec.{T, ltb}
-use lib.Ieee.{Float, binary64, fits}
+use lib.Dec.{ltb}
+use lib.Ieee.{Float}
 use lib.ListN.{length, drop}
-use Rattle.root.proofs.Unique.{root-unique}
 use Rattle.distance.specs.declared.Coord.{Coord}
 use Rattle.search.specs.Refusal.{Told, told}
-use Rattle.search.specs.Result.{Roots, none, more}
 use Rattle.search.specs.declared.Found.{Found}
 use Rattle.search.specs.declared.Found.the-variants.{Hits, Refused}
+use Rattle.search.proofs.Written.{Held, held-front, roots-unique}
 use Rattle.radius.specs.Within.{Reply, refuses, damaged, finds, squares, RootsInFront, Unless, Distances, Answered, WithDistances}
-
--- every number of the list is one of 64 bits
-abbrev pub AllFit : List Float → Type 0
-AllFit [] = Unit
-AllFit (x ∷ xs) = T (fits binary64 x) × AllFit xs
-
-front-fit : (xs ys : List Float) → AllFit (xs ++ ys) → AllFit xs
-front-fit [] ys h = tt
-front-fit (x ∷ xs) ys h = (h .0, front-fit xs ys (h .1))
-
-pub roots-unique : (ds rs ss : List Float) → AllFit rs → AllFit ss → Roots ds rs → Roots ds ss → rs ≡ ss
-roots-unique [] [] [] f g none none = refl
-roots-unique (d ∷ ds) (r ∷ rs) (s ∷ ss) f g (more h p) (more k q) = let e = root-unique d r s (f .0) (g .0) h k in let i = roots-unique ds rs ss (f .1) (g .1) p q in cc
 
 -- an answer is known by what it tells, for a refusal has a number
 told-unique : (r s : Found) → told r ≡ told s → ((told r .number ≡ 0) → r ≡ Hits (told r .detail)) → ((told s .number ≡ 0) → s ≡ Hits (told s .detail)) → r ≡ s
@@ -55,12 +41,12 @@ answered-unique a room is₀ r s is js A B = record {
     own x l W h =
         W .hits-if-zero (sym (ap (λ (y : Told). y .number) (W .told-is)) ∙ h) ∙ ap (λ (y : Told). Hits (y .detail)) (sym (W .told-is))
 
-in-front-unique : (squares ds₀ ds es : List Float) → AllFit ds → AllFit es → RootsInFront squares ds₀ ds → RootsInFront squares ds₀ es → ds ≡ es
+in-front-unique : (squares ds₀ ds es : List Float) → Held ds → Held es → RootsInFront squares ds₀ ds → RootsInFront squares ds₀ es → ds ≡ es
 in-front-unique squares ds₀ ds es f g R S =
-    let e = roots-unique squares (R .roots) (S .roots) (front-fit (R .roots) (drop (length squares) ds₀) (subst AllFit (R .are) f)) (front-fit (S .roots) (drop (length squares) ds₀) (subst AllFit (S .are) g)) (R .each-root) (S .each-root) in
+    let e = roots-unique (R .each-root) (S .each-root) (held-front (R .roots) (drop (length squares) ds₀) (subst Held (R .are) f)) (held-front (S .roots) (drop (length squares) ds₀) (subst Held (S .are) g)) in
     R .are ∙ ap (λ (x : List Float). x ++ drop (length squares) ds₀) e ∙ sym (S .are)
 
-distances-unique : (points : List Float) (q : Coord) (a : Reply) (room : ℕ) (ds₀ ds es : List Float) → AllFit ds → AllFit es → Distances points q a room ds₀ ds → Distances points q a room ds₀ es → ds ≡ es
+distances-unique : (points : List Float) (q : Coord) (a : Reply) (room : ℕ) (ds₀ ds es : List Float) → Held ds → Held es → Distances points q a room ds₀ ds → Distances points q a room ds₀ es → ds ≡ es
 distances-unique points q (refuses k) room ds₀ ds es f g D E = D ∙ sym E
 distances-unique points q damaged room ds₀ ds es f g D E = D ∙ sym E
 distances-unique points q (finds l) room ds₀ ds es f g D E = go (ltb room (length l)) D E
@@ -73,7 +59,7 @@ pub record SameAll (r s : Found) (is js : List ℕ) (ds es : List Float) : Type 
   pub same-front : SameIndices r s is js
   pub same-distances : ds ≡ es
 
-pub with-distances-unique : (points : List Float) (q : Coord) (a : Reply) (is₀ : List ℕ) (ds₀ : List Float) (r s : Found) (is js : List ℕ) (ds es : List Float) → AllFit ds → AllFit es
+pub with-distances-unique : (points : List Float) (q : Coord) (a : Reply) (is₀ : List ℕ) (ds₀ : List Float) (r s : Found) (is js : List ℕ) (ds es : List Float) → Held ds → Held es
     → WithDistances points q a is₀ ds₀ r is ds → WithDistances points q a is₀ ds₀ s js es → SameAll r s is js ds es
 with-distances-unique points q a is₀ ds₀ r s is js ds es f g A B = record {
   same-front = answered-unique a (min (length is₀) (length ds₀)) is₀ r s is js (A .answered) (B .answered);

@@ -1,6 +1,6 @@
 -- The root of a number that is not below zero is no NaN: case by case of the definition. Assumes nothing.
-use mathlib.Core.Path.{_≡_, sym, subst}
-use mathlib.Core.Bool.{Bool, true, false, not}
+use mathlib.Core.Path.{sym, subst}
+use mathlib.Core.Bool.{Bool, false, not}
 use Prim.Native.Nat.{zero, suc}
 use lib.Dec.{T}
 use lib.Ieee.{Float, nan, inf, fin, isNan}

@@ -1,7 +1,7 @@
 -- Worked values of the root. Each is computed from the definition; by `root-unique` no other float will do. Assumes nothing.
 use mathlib.Core.Path.{_≡_, refl, ap, _∙_}
 use mathlib.Core.Bool.{true, false}
-use Prim.Native.Nat.{ℕ, _≤_, _<_}
+use Prim.Native.Nat.{ℕ, _<_}
 use native.Mathlib.Nat.{not-le-of-lt}
 use lib.Dec.{T, leb, lit<, lit≤}
 use lib.IntN.{pos, negsuc}

@@ -15,9 +15,9 @@ use Rattle.search.proofs.Insert.{Each}
 abbrev pub Held : List Float → Type 0
 Held l = Each (λ x. T (fits binary64 x)) l
 
-each-front : {A : Type 0} (P : A → Type 0) (xs ys : List A) → Each P (xs ++ ys) → Each P xs
-each-front P [] ys h = tt
-each-front P (x ∷ xs) ys h = (h .0, each-front P xs ys (h .1))
+pub held-front : (xs ys : List Float) → Held (xs ++ ys) → Held xs
+held-front [] ys h = tt
+held-front (x ∷ xs) ys h = (h .0, held-front xs ys (h .1))
 
 pub roots-unique : {ds rs qs : List Float} → Roots ds rs → Roots ds qs → Held rs → Held qs → rs ≡ qs
 roots-unique none none h k = refl
@@ -33,6 +33,6 @@ module _ {hits : List Best} {is₀ is js : List ℕ} {ds₀ ds es : List Float} 
       W .distances-are
       ∙ ap (λ (l : List Float). l ++ drop (length hits) ds₀)
       (roots-unique (W .each-root) (X .each-root)
-      (each-front (λ x. T (fits binary64 x)) (W .roots) (drop (length hits) ds₀) (subst Held (W .distances-are) h))
-      (each-front (λ x. T (fits binary64 x)) (X .roots) (drop (length hits) ds₀) (subst Held (X .distances-are) k)))
+      (held-front (W .roots) (drop (length hits) ds₀) (subst Held (W .distances-are) h))
+      (held-front (X .roots) (drop (length hits) ds₀) (subst Held (X .distances-are) k)))
       ∙ sym (X .distances-are)
