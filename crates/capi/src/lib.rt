@@ -1,0 +1,5 @@
+// The C interface (include/yolthugen.h): each function lends its slices to one entry of the library and flattens the
+// answer to a number, 0 or a refusal's, and a detail or a count. Nothing is worked out here.
+mod check_tree;
+mod node_count;
+mod root_of;
