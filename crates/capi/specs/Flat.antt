@@ -1,10 +1,13 @@
 -- An entry's answer as C has it: a number that is returned, 0 or a refusal's, and a second number in a cell.
 --   Flat P number-of second-of number second
---                          some answer that the entry's own promise P allows was given as these two numbers
---   Checks t number detail the tree check's
---   hits-of a              what stands in nearest's count: how many hits, and so 0, its detail, on a refusal
---   cell number zero new old  what a cell holds afterwards: zero where the number is 9, else the new value if there is one, else the old
---   NearestCells, Nears    nearest's: its hit goes into two cells
+--                            some answer that the entry's own promise P allows was given as these two numbers
+--   cell number zero new old what a cell holds afterwards: zero on a 9; else the new value, where there is one; else the old
+--   Checks t number detail   the tree check, of t
+--   HitCells t q i₀ d₀ a i d nearest's own promise of an answer that tells a; and its index and distance, in two cells
+--   Nears t q i₀ d₀ number count i d
+--                            nearest, at q over t; the count is of hits, and so 0 on a refusal, as its detail is
+--   Builds leaf-size t₀ number detail t
+--                            the build of t₀, which left t
 use mathlib.Core.Path.{_≡_}
 use mathlib.Core.Bool.{cond}
 use mathlib.Core.List.{List, [], _∷_}
@@ -15,9 +18,8 @@ use lib.Ieee.{Float, binary64, ofBits}
 use Rattle.distance.specs.declared.Coord.{Coord}
 use Rattle.tree.specs.Accepted.{Tree}
 use Rattle.accept.specs.Answer as check
-use Rattle.accept.specs.declared.Checked.{Checked}
+use Rattle.build.specs.Outcome as build
 use Rattle.nearest.specs.Nearest as near
-use Rattle.nearest.specs.declared.Nearest.{Nearest}
 
 pub record Flat {A : Type 0} (P : A → Type 0) (number-of second-of : A → ℕ) (number second : ℕ) : Type 0 where
   pub answer : A
@@ -32,11 +34,15 @@ abbrev pub cell : {A : Type 0} → ℕ → A → List A → A → A
 cell number zero [] old = cond (eqb number 9) zero old
 cell number zero (new ∷ more) old = cond (eqb number 9) zero new
 
--- the two cells before and after
-pub record Nears (t : Tree) (q : Coord) (index₀ : ℕ) (distance₀ : Float) (number count index : ℕ) (distance : Float) : Type 0 where
-  pub answer : Nearest
-  pub promised : near.Answers t q (near.told answer)
-  pub number-is : number ≡ near.told answer .number
-  pub count-is : count ≡ length (near.told answer .indices)
-  pub index-is : index ≡ cell (near.told answer .number) 0 (near.told answer .indices) index₀
-  pub distance-is : distance ≡ cell (near.told answer .number) (ofBits binary64 0) (near.told answer .distances) distance₀
+pub record HitCells (t : Tree) (q : Coord) (index₀ : ℕ) (distance₀ : Float) (a : near.Told) (index : ℕ) (distance : Float) : Type 0 where
+  pub answers : near.Answers t q a
+  pub index-is : index ≡ cell (a .number) 0 (a .indices) index₀
+  pub distance-is : distance ≡ cell (a .number) (ofBits binary64 0) (a .distances) distance₀
+
+abbrev pub Nears : Tree → Coord → ℕ → Float → ℕ → ℕ → ℕ → Float → Type 0
+Nears t q index₀ distance₀ number count index distance =
+    Flat (λ a. HitCells t q index₀ distance₀ (near.told a) index distance) (λ a. near.told a .number) (λ a. length (near.told a .indices)) number count
+
+abbrev pub Builds : ℕ → Tree → ℕ → ℕ → Tree → Type 0
+Builds leaf-size t₀ number detail t =
+    Flat (λ a. build.Outcome leaf-size t₀ (build.told a) t) (λ a. build.told a .number) (λ a. build.told a .detail) number detail
