@@ -8,10 +8,17 @@
 --                            nearest, at q over t; the count is of hits, and so 0 on a refusal, as its detail is
 --   Builds leaf-size t₀ number detail t
 --                            the build of t₀, which left t
+--   Fills P number count     a query that fills slices and promises P of its answer
+--   KNears t q k is₀ ds₀ number count is ds
+--                            k-nearest: the two slices before and after
+--   Within t q radius is₀ ds₀ number count is ds
+--                            radius
+--   WithinIndices t q radius is₀ number count is
+--                            radius, indices alone
 use mathlib.Core.Path.{_≡_}
 use mathlib.Core.Bool.{cond}
 use mathlib.Core.List.{List, [], _∷_}
-use Prim.Native.Nat.{ℕ}
+use Prim.Native.Nat.{ℕ, min}
 use lib.Dec.{eqb}
 use lib.ListN.{length}
 use lib.Ieee.{Float, binary64, ofBits}
@@ -20,6 +27,11 @@ use Rattle.tree.specs.Accepted.{Tree}
 use Rattle.accept.specs.Answer as check
 use Rattle.build.specs.Outcome as build
 use Rattle.nearest.specs.Nearest as near
+use Rattle.search.specs.declared.Found.{Found}
+use Rattle.search.specs.Refusal.{told}
+use Rattle.search.specs.Answer.{Answers}
+use Rattle.k_nearest.specs.Query.{answer}
+use Rattle.radius.specs.Within.{reply, Answered, WithDistances}
 
 pub record Flat {A : Type 0} (P : A → Type 0) (number-of second-of : A → ℕ) (number second : ℕ) : Type 0 where
   pub answer : A
@@ -46,3 +58,18 @@ Nears t q index₀ distance₀ number count index distance =
 abbrev pub Builds : ℕ → Tree → ℕ → ℕ → Tree → Type 0
 Builds leaf-size t₀ number detail t =
     Flat (λ a. build.Outcome leaf-size t₀ (build.told a) t) (λ a. build.told a .number) (λ a. build.told a .detail) number detail
+
+abbrev pub Fills : (Found → Type 0) → ℕ → ℕ → Type 0
+Fills P number count = Flat P (λ a. told a .number) (λ a. told a .detail) number count
+
+abbrev pub KNears : Tree → Coord → ℕ → List ℕ → List Float → ℕ → ℕ → List ℕ → List Float → Type 0
+KNears t q k indices₀ distances₀ number count indices distances =
+    Fills (λ a. Answers (answer t q k (min (length indices₀) (length distances₀))) indices₀ distances₀ a indices distances) number count
+
+abbrev pub Within : Tree → Coord → Float → List ℕ → List Float → ℕ → ℕ → List ℕ → List Float → Type 0
+Within t q radius indices₀ distances₀ number count indices distances =
+    Fills (λ a. WithDistances (t .points) q (reply t q radius) indices₀ distances₀ a indices distances) number count
+
+abbrev pub WithinIndices : Tree → Coord → Float → List ℕ → ℕ → ℕ → List ℕ → Type 0
+WithinIndices t q radius indices₀ number count indices =
+    Fills (λ a. Answered (reply t q radius) (length indices₀) indices₀ a indices) number count
