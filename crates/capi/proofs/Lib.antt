@@ -1,0 +1,2 @@
+-- The law by which each flattening is shown.
+pub mod Flattening
