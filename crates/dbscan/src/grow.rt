@@ -160,8 +160,8 @@ fn label(
         return c;
     }
     let n = points.len() / 2;
-    let count = neighbours(points, indices, boxes, links, epsilon, i, &mut work[..n]);
-    if count < m {
+    let around = neighbours(points, indices, boxes, links, epsilon, i, &mut work[..n]);
+    if around < m {
         return c;
     }
     expand(
@@ -173,7 +173,7 @@ fn label(
         m,
         i,
         c,
-        count,
+        around,
         labels,
         work,
     );
