@@ -1,4 +1,4 @@
--- Laws of the labels, for `dbscan` and for the worked examples.
+-- Laws of the labels, for `dbscan`; and a test of labels that computes, for worked examples.
 pub mod Neighbours
 pub mod Unique
 pub mod Test
