@@ -15,6 +15,8 @@
 --                            radius
 --   WithinIndices t q radius is₀ number count is
 --                            radius, indices alone
+--   Labels epsilon m s₀ number detail s
+--                            the labelling: all its slices before and after
 use mathlib.Core.Path.{_≡_}
 use mathlib.Core.Bool.{cond}
 use mathlib.Core.List.{List, [], _∷_}
@@ -26,6 +28,7 @@ use Rattle.distance.specs.declared.Coord.{Coord}
 use Rattle.tree.specs.Accepted.{Tree}
 use Rattle.accept.specs.Answer as check
 use Rattle.build.specs.Outcome as build
+use Rattle.dbscan.specs.Outcome as label
 use Rattle.nearest.specs.Nearest as near
 use Rattle.search.specs.declared.Found.{Found}
 use Rattle.search.specs.Refusal.{told}
@@ -73,3 +76,7 @@ Within t q radius indices₀ distances₀ number count indices distances =
 abbrev pub WithinIndices : Tree → Coord → Float → List ℕ → ℕ → ℕ → List ℕ → Type 0
 WithinIndices t q radius indices₀ number count indices =
     Fills (λ a. Answered (reply t q radius) (length indices₀) indices₀ a indices) number count
+
+abbrev pub Labels : Float → ℕ → label.Slices → ℕ → ℕ → label.Slices → Type 0
+Labels epsilon m s₀ number detail s =
+    Flat (λ a. label.Outcome epsilon m s₀ (label.told a) s) (λ a. label.told a .number) (λ a. label.told a .detail) number detail

@@ -3,6 +3,7 @@
 mod build_tree;
 mod check_tree;
 mod k_nearest_hits;
+mod label;
 mod nearest_hit;
 mod node_count;
 mod radius_hits;

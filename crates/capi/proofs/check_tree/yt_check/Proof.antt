@@ -1,8 +1,6 @@
 -- `capi::check_tree::yt_check` meets its contract: each arm gives the two numbers that go with its case.
 -- Assumes nothing.
 use borrow.Author.Needs.{needs}
-use Rattle.accept.specs.Answer.{told, Answers}
-use Rattle.tree.specs.Accepted.{tree}
 use Rattle.capi.proofs.Flattening.{flat-case}
 use Rattle.capi.proofs.check_tree.yt_check.Statement.{statement}
 use Rattle.capi.proofs.check_tree.yt_check.Tie as tie
@@ -15,18 +13,14 @@ enum-told c = search needs
 
 returns : tie.Need-returns
 returns c =
-    let a = c .before .before .before .before .before .before .before .args in
-    flat-case (Answers (tree (a .points .now) (a .indices .now) (a .boxes .now) (a .links .now))) (λ r. told r .number) (λ r. told r .detail) _
-    (c .before .before .check-tree .ensures) (c .enum-told .given .1)
+    flat-case _ _ _ _ (c .before .before .check-tree .ensures) (c .enum-told .given .1)
 
 enum-known-answer : tie.Need-enum-known-answer
 enum-known-answer c = search needs
 
 returns-2 : tie.Need-returns-2
 returns-2 c =
-    let a = c .before .before .before .before .before .before .before .before .args in
-    flat-case (Answers (tree (a .points .now) (a .indices .now) (a .boxes .now) (a .links .now))) (λ r. told r .number) (λ r. told r .detail) _
-    (c .before .before .before .check-tree .ensures) (c .before .answer .given .1)
+    flat-case _ _ _ _ (c .before .before .before .check-tree .ensures) (c .before .answer .given .1)
 
 pub yt-check-spec : {M : Type 1} → statement M
 yt-check-spec =
