@@ -11,7 +11,7 @@ use lib.Ieee.{Float, nan, binary64, toBits}
 use lib.Seq.{sets, length-sets}
 use lib.Dec.{ltb, eqb}
 use borrow.Author.Tests.{lt-ltb, le-ltb}
-use Rattle.text.specs.Line.{Put, glyph-of, decimals, decimal, hexes, hit-line, label-line, lines, hit-lines, label-lines}
+use Rattle.text.specs.Line.{Put, glyph-of, decimals, decimal, hexes, hit-line, count-line, label-line, lines, hit-lines, label-lines}
 
 pub sets-append : (l : List ℕ) (i : ℕ) (vs ws : List ℕ) → sets (sets l i vs) (i + length vs) ws ≡ sets l i (vs ++ ws)
 sets-append l i [] ws = ap (λ (k : ℕ). sets l k ws) (omega arith)
@@ -96,7 +96,15 @@ short-label l =
     length-cond (eqb l 4294967295) _ _ 11 (omega arith)
     (omega (arith, length-append (decimal l) (10 ∷ []), length-decimals 10 l))
 
+pub short-count : (letter n : ℕ) → length (count-line letter n) ≤ 13
+short-count letter n = omega (arith, length-append (decimal n) (10 ∷ []), length-decimals 10 n)
+
 -- ---- lines in turn
+pub lines-same : (k : ℕ) (f g : ℕ → List ℕ) → ((i : ℕ) → i < k → f i ≡ g i) → lines k f ≡ lines k g
+unfolding lines
+lines-same zero f g h = refl
+lines-same (suc k) f g h = cc (lines-same k f g (λ i b. h i (omega arith)), h k (omega arith))
+
 pub short-lines : (b k : ℕ) (f : ℕ → List ℕ) → ((i : ℕ) → length (f i) ≤ b) → length (lines k f) ≤ b * k
 unfolding lines
 short-lines b zero f h = omega arith
