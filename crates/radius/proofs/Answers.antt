@@ -25,7 +25,7 @@ use Rattle.search.specs.Result.{float-zeros}
 use Rattle.search.specs.declared.Found.{Found}
 use Rattle.search.specs.declared.Found.the-variants.{Hits, Refused}
 use Rattle.search.proofs.Own.{After, walk-after}
-use Rattle.radius.specs.Within.{within, Reply, refuses, damaged, finds, reply-of, reply, squares, RootsInFront, Unless, Distances, Answered, WithDistances}
+use Rattle.radius.specs.Within.{within, Reply, refuses, damaged, finds, reply-of, reply, squares, RootsInFront, Unless, Distances, Answered, InRoom}
 use Rattle.radius.specs.Keeping.{Measurable}
 
 pub nonzero : (n : ℕ) → (n ≡ 0 → ⊥) → 0 < n
@@ -218,21 +218,24 @@ measurable t q radius room n is₀ is ds h k s A = go (reply t q radius) (reply-
             }
 
 -- ---- both slices, by what the answer r is
-module _ (t : Tree) (q : Coord) (radius : Float) (room : ℕ) (is₀ is : List ℕ) (ds₀ : List Float) (r : Found) (e : room ≡ min (length is₀) (length ds₀)) (A : Answered (reply t q radius) room is₀ r is) where
-  shortest : (x : Found) → r ≡ x → Answered (reply t q radius) (min (length is₀) (length ds₀)) is₀ x is
+pub in-room-as : {points : List Float} {q : Coord} {a : Reply} {m n : ℕ} {is₀ is : List ℕ} {ds₀ ds : List Float} {r : Found} → m ≡ n → InRoom points q a m is₀ ds₀ r is ds → InRoom points q a n is₀ ds₀ r is ds
+in-room-as {points} {q} {a} {m} {n} {is₀} {is} {ds₀} {ds} {r} e A = subst (λ (room : ℕ). InRoom points q a room is₀ ds₀ r is ds) e A
+
+module _ (t : Tree) (q : Coord) (radius : Float) (cap room : ℕ) (is₀ is : List ℕ) (ds₀ : List Float) (r : Found) (e : room ≡ min cap (min (length is₀) (length ds₀))) (A : Answered (reply t q radius) room is₀ r is) where
+  shortest : (x : Found) → r ≡ x → Answered (reply t q radius) (min cap (min (length is₀) (length ds₀))) is₀ x is
   shortest x h = subst (λ (k : ℕ). Answered (reply t q radius) k is₀ x is) e (subst (λ (y : Found). Answered (reply t q radius) room is₀ y is) h A)
 
   pub hits-measurable : (n : ℕ) → r ≡ Hits n → length is ≡ length is₀ → Measurable (t .points) is n ds₀
-  hits-measurable n h s = measurable t q radius (min (length is₀) (length ds₀)) n is₀ is ds₀ (omega arith) (omega arith) s (shortest (Hits n) h)
+  hits-measurable n h s = measurable t q radius (min cap (min (length is₀) (length ds₀))) n is₀ is ds₀ (omega arith) (omega arith) s (shortest (Hits n) h)
 
-  pub hits-with : (n : ℕ) → r ≡ Hits n → (ds : List Float) → RootsInFront (squares (t .points) q (take n is)) ds₀ ds → WithDistances (t .points) q (reply t q radius) is₀ ds₀ (Hits n) is ds
+  pub hits-with : (n : ℕ) → r ≡ Hits n → (ds : List Float) → RootsInFront (squares (t .points) q (take n is)) ds₀ ds → InRoom (t .points) q (reply t q radius) (min cap (min (length is₀) (length ds₀))) is₀ ds₀ (Hits n) is ds
   hits-with n h ds R = record {
     answered = shortest (Hits n) h;
-    distances-are = distances-hits (t .points) q (reply t q radius) (reply-proper t q radius) (min (length is₀) (length ds₀)) is₀ is ds₀ ds n (shortest (Hits n) h) R;
+    distances-are = distances-hits (t .points) q (reply t q radius) (reply-proper t q radius) (min cap (min (length is₀) (length ds₀))) is₀ is ds₀ ds n (shortest (Hits n) h) R;
   }
 
-  pub refused-with : (k d : ℕ) → r ≡ Refused k d → (ds : List Float) → ds ≡ cond (eqb k 9) (float-zeros ds₀) ds₀ → WithDistances (t .points) q (reply t q radius) is₀ ds₀ (Refused k d) is ds
+  pub refused-with : (k d : ℕ) → r ≡ Refused k d → (ds : List Float) → ds ≡ cond (eqb k 9) (float-zeros ds₀) ds₀ → InRoom (t .points) q (reply t q radius) (min cap (min (length is₀) (length ds₀))) is₀ ds₀ (Refused k d) is ds
   refused-with k d h ds z = record {
     answered = shortest (Refused k d) h;
-    distances-are = distances-refused (t .points) q (reply t q radius) (reply-proper t q radius) (min (length is₀) (length ds₀)) is₀ is ds₀ ds k d (shortest (Refused k d) h) z;
+    distances-are = distances-refused (t .points) q (reply t q radius) (reply-proper t q radius) (min cap (min (length is₀) (length ds₀))) is₀ is ds₀ ds k d (shortest (Refused k d) h) z;
   }

@@ -8,7 +8,8 @@
 --   leaves a room is        what it leaves of an index slice that held is
 --   Distances points q a room ds₀ ds  what it leaves of a distance slice
 --   Answered a room is₀ r is  the answer r, and the index slice
---   WithDistances ..        the same with a distance slice; room is the shorter length
+--   InRoom ..               the same with a distance slice
+--   WithDistances ..        the same where room is the shorter length of the two slices
 use mathlib.Core.Path.{_≡_}
 use mathlib.Core.Bool.{Bool, true, false, cond}
 use mathlib.Core.List.{List, [], _++_, map}
@@ -93,6 +94,9 @@ pub record Answered (a : Reply) (room : ℕ) (indices₀ : List ℕ) (r : Found)
   pub hits-if-zero : says a room .number ≡ 0 → r ≡ Hits (says a room .detail)
   pub indices-are : indices ≡ leaves a room indices₀
 
-pub record WithDistances (points : List Float) (q : Coord) (a : Reply) (indices₀ : List ℕ) (distances₀ : List Float) (r : Found) (indices : List ℕ) (distances : List Float) : Type 0 where
-  pub answered : Answered a (min (length indices₀) (length distances₀)) indices₀ r indices
-  pub distances-are : Distances points q a (min (length indices₀) (length distances₀)) distances₀ distances
+pub record InRoom (points : List Float) (q : Coord) (a : Reply) (room : ℕ) (indices₀ : List ℕ) (distances₀ : List Float) (r : Found) (indices : List ℕ) (distances : List Float) : Type 0 where
+  pub answered : Answered a room indices₀ r indices
+  pub distances-are : Distances points q a room distances₀ distances
+
+abbrev pub WithDistances : List Float → Coord → Reply → List ℕ → List Float → Found → List ℕ → List Float → Type 0
+WithDistances points q a indices₀ distances₀ r indices distances = InRoom points q a (min (length indices₀) (length distances₀)) indices₀ distances₀ r indices distances

@@ -15,7 +15,7 @@ ghost use Rattle.tree.specs.Points.{size};
 ghost use Rattle.tree.specs.Accepted.{tree};
 ghost use Rattle.search.specs.Result.{float-zeros};
 ghost use Rattle.search.specs.Walk.{scan, leaf-scan, walk-all, outcome, Walks};
-ghost use Rattle.radius.specs.Within.{place, within, reply, reply-of, Answered, WithDistances, RootsInFront, squares};
+ghost use Rattle.radius.specs.Within.{place, within, reply, reply-of, Answered, InRoom, WithDistances, RootsInFront, squares};
 ghost use Rattle.radius.specs.Keeping.{held, keep, keeping, kept, Few, Roomy, Starts, Collectable, Measurable};
 
 // How many hits a walk has met, or that it met damage.
@@ -329,7 +329,37 @@ fn shorter(a: usize, b: usize) -> usize
 }
 
 // Every point whose squared distance to (x, y) is at most radius * radius, by rising index, with its distance. Room is the
-// shorter length of the two slices.
+// shortest of cap and the lengths of the two slices.
+pub fn within_radius_capped(
+    points: &[f64],
+    indices: &[u32],
+    boxes: &[f64],
+    links: &[u32],
+    x: f64,
+    y: f64,
+    radius: f64,
+    cap: usize,
+    out_indices: &mut [u32],
+    out_distances: &mut [f64],
+) -> Found
+    ensures { λ r. ⌜ InRoom (now (points .entry)) (place x y) (reply (tree (now (points .entry)) (now (indices .entry)) (now (boxes .entry)) (now (links .entry))) (place x y) radius) (min cap (min (length (now («out_indices» .entry))) (length (now («out_distances» .entry))))) (now («out_indices» .entry)) (now («out_distances» .entry)) r (now («out_indices» .exit)) (now («out_distances» .exit)) ⌝ }
+{
+    let q = Coord { x, y };
+    let room = shorter(cap, shorter(out_indices.len(), out_distances.len()));
+    let r = answer(points, indices, boxes, links, q, radius, out_indices, room);
+    match r {
+        Found::Hits(n) => {
+            set_distances(points, q, out_indices, out_distances, n as usize);
+            return r;
+        }
+        Found::Refused(number, _detail) => {
+            clear_on_damage(number, out_distances);
+            return r;
+        }
+    }
+}
+
+// The same with no cap: room is the shorter length of the two slices.
 pub fn within_radius(
     points: &[f64],
     indices: &[u32],
@@ -343,17 +373,17 @@ pub fn within_radius(
 ) -> Found
     ensures { λ r. ⌜ WithDistances (now (points .entry)) (place x y) (reply (tree (now (points .entry)) (now (indices .entry)) (now (boxes .entry)) (now (links .entry))) (place x y) radius) (now («out_indices» .entry)) (now («out_distances» .entry)) r (now («out_indices» .exit)) (now («out_distances» .exit)) ⌝ }
 {
-    let q = Coord { x, y };
-    let room = shorter(out_indices.len(), out_distances.len());
-    let r = answer(points, indices, boxes, links, q, radius, out_indices, room);
-    match r {
-        Found::Hits(n) => {
-            set_distances(points, q, out_indices, out_distances, n as usize);
-            return r;
-        }
-        Found::Refused(number, _detail) => {
-            clear_on_damage(number, out_distances);
-            return r;
-        }
-    }
+    let cap = out_indices.len();
+    within_radius_capped(
+        points,
+        indices,
+        boxes,
+        links,
+        x,
+        y,
+        radius,
+        cap,
+        out_indices,
+        out_distances,
+    )
 }

@@ -1,0 +1,3 @@
+-- Laws of the records, and of a slice that is lent on for a call.
+pub mod Records
+pub mod Lent

@@ -1,0 +1,2 @@
+-- What the contracts of the thin entry cite.
+pub mod Records
