@@ -1,5 +1,5 @@
 -- A `&κ mut [T]` that is lent again for a lifetime κ′ of a call, and comes back: as a `&κ′ mut [T]`, and as a `&κ′ [T]`. It
--- says nothing of the crate. n is how many elements the reference's machine value counts.
+-- says nothing of the crate.
 --     LentAgain, LentShared   what the holder keeps while the slice is lent: the lender's part at κ′, and its own borrow at κ,
 --                             open, with both halves of its ghost variable
 --     lends-again, comes-back          the slice comes back at the list that the callee left
@@ -17,7 +17,7 @@ use base.Logic.{ent, sep, ex}
 use base.Fml.{Lft, GName, Share, Fml, fsep, flft, fdead, fobs, fauth, flent, fobor}
 use prog.Wp.{Heap}
 use ghost.Atoms.{Atoms, sem}
-use types.Kit.{Given, ‵, raw, _⊛_, some, later, _$_, _∵_, !, qed, move, use1, use3, drop, split, pick, rewrite, fsplit, fjoin, feqI, frame, await, updating, now as at-once, show, done}
+use types.Kit.{Given, ‵, _⊛_, some, later, _$_, _∵_, !, qed, move, use1, use3, drop, split, pick, fsplit, fjoin, feqI, frame, await, updating, now as at-once, show, done}
 use types.Tokens.{lent-back}
 use types.SemTy.{cells, Arr}
 use types.Share.{arr-parts}

@@ -1,7 +1,7 @@
 -- The records that are set from the front on: their number stays, a count of hits that was answered has room in all three
 -- slices, and what is set is what the definition says, pairs of the two fronts or zeros. By the store from the front that the
 -- two slices' own loops have. Assumes nothing.
-use mathlib.Core.Path.{_≡_, refl, sym, ap, _∙_}
+use mathlib.Core.Path.{_≡_, refl, ap, _∙_}
 use mathlib.Core.Bool.{Bool, true, false, cond}
 use mathlib.Core.List.{List, [], _∷_, _++_}
 use Prim.Native.Nat.{ℕ, zero, suc, _≤_, _<_}
@@ -18,7 +18,8 @@ use Rattle.search.specs.declared.Found.the-variants.{Hits, Refused}
 use Rattle.search.proofs.Fronts.{front-more, same-more, same-all}
 use Rattle.radius.specs.Within.{Reply, refuses, damaged, finds, says, Answered}
 use Rattle.hits.specs.declared.Hit.{Hit}
-use Rattle.hits.specs.Records.{hit, pairs, recorded, copies, how-many, from-slices, filled, Enough}
+use Rattle.hits.specs.Records.{hit, pairs, recorded}
+use Rattle.hits.specs.Filling.{copies, how-many, from-slices, filled, Enough}
 
 pub filled-length : (f : ℕ → Hit) (hits : List Hit) (n : ℕ) → length (filled f hits n) ≡ length hits
 filled-length f hits zero = refl

@@ -1,2 +1,3 @@
--- What the contracts of the thin entry cite.
+-- What the contracts of the thin entry cite: Records for its users, Filling for its inner functions.
 pub mod Records
+pub mod Filling

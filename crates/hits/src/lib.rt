@@ -3,8 +3,9 @@
 use search::Found;
 ghost use mathlib.Core.Path.{_≡_};
 ghost use Rattle.tree.specs.Accepted.{tree};
-ghost use Rattle.radius.specs.Within.{place, reply, InRoom};
-ghost use Rattle.hits.specs.Records.{filled, from-slices, how-many, copies, Enough, InRecords};
+ghost use Rattle.radius.specs.Within.{place, reply};
+ghost use Rattle.hits.specs.Records.{InRecords};
+ghost use Rattle.hits.specs.Filling.{filled, from-slices, how-many, copies, Enough};
 
 // A hit of a query: the point's index, and its distance.
 pub struct Hit {

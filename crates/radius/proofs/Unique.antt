@@ -12,7 +12,7 @@ use Rattle.search.specs.Refusal.{Told, told}
 use Rattle.search.specs.declared.Found.{Found}
 use Rattle.search.specs.declared.Found.the-variants.{Hits, Refused}
 use Rattle.search.proofs.Written.{Held, held-front, roots-unique}
-use Rattle.radius.specs.Within.{Reply, refuses, damaged, finds, squares, RootsInFront, Unless, Distances, Answered, WithDistances}
+use Rattle.radius.specs.Within.{Reply, refuses, damaged, finds, squares, RootsInFront, Unless, Distances, Answered, InRoom, WithDistances}
 
 -- an answer is known by what it tells, for a refusal has a number
 told-unique : (r s : Found) → told r ≡ told s → ((told r .number ≡ 0) → r ≡ Hits (told r .detail)) → ((told s .number ≡ 0) → s ≡ Hits (told s .detail)) → r ≡ s
@@ -59,9 +59,13 @@ pub record SameAll (r s : Found) (is js : List ℕ) (ds es : List Float) : Type 
   pub same-front : SameIndices r s is js
   pub same-distances : ds ≡ es
 
+pub in-room-unique : (points : List Float) (q : Coord) (a : Reply) (room : ℕ) (is₀ : List ℕ) (ds₀ : List Float) (r s : Found) (is js : List ℕ) (ds es : List Float) → Held ds → Held es
+    → InRoom points q a room is₀ ds₀ r is ds → InRoom points q a room is₀ ds₀ s js es → SameAll r s is js ds es
+in-room-unique points q a room is₀ ds₀ r s is js ds es f g A B = record {
+  same-front = answered-unique a room is₀ r s is js (A .answered) (B .answered);
+  same-distances = distances-unique points q a room ds₀ ds es f g (A .distances-are) (B .distances-are);
+}
+
 pub with-distances-unique : (points : List Float) (q : Coord) (a : Reply) (is₀ : List ℕ) (ds₀ : List Float) (r s : Found) (is js : List ℕ) (ds es : List Float) → Held ds → Held es
     → WithDistances points q a is₀ ds₀ r is ds → WithDistances points q a is₀ ds₀ s js es → SameAll r s is js ds es
-with-distances-unique points q a is₀ ds₀ r s is js ds es f g A B = record {
-  same-front = answered-unique a (min (length is₀) (length ds₀)) is₀ r s is js (A .answered) (B .answered);
-  same-distances = distances-unique points q a (min (length is₀) (length ds₀)) ds₀ ds es f g (A .distances-are) (B .distances-are);
-}
+with-distances-unique points q a is₀ ds₀ = in-room-unique points q a (min (length is₀) (length ds₀)) is₀ ds₀

@@ -4,7 +4,7 @@
 -- Assumes nothing.
 use mathlib.Core.Path.{_≡_, refl, sym, _∙_, ap, subst}
 use Prim.Native.Nat.{ℕ, zero, suc, _+_, _<_, _≤_, _^_, _*_}
-use native.Mathlib.Nat.{add-zero, add-suc, suc-add, zero-add, lt-irrefl}
+use native.Mathlib.Nat.{add-zero, add-suc, suc-add, zero-add, mul-le-mul-right}
 use native.Mathlib.Omega.{arith}
 use native.Mathlib.Numerals.{add-one}
 use mathlib.Core.Bool.{Bool, true, false, not}
@@ -53,7 +53,8 @@ use denote.Triple.Table.{entered}
 use denote.Triple.Walked.{says, needs, Stays, stay-none, stay-slice, stay-none-slice, walkOf, goes-none, goes-slice, goes-none-slice, Walks, ends-at, walked, walk-meets}
 use denote.Exit.{yes}
 use Rattle.hits.specs.declared.Hit.{Hit}
-use Rattle.hits.specs.Records.{hit, from-slices, filled, Enough}
+use Rattle.hits.specs.Records.{hit}
+use Rattle.hits.specs.Filling.{from-slices, filled, Enough}
 use Rattle.hits.proofs.Records.{filled-length}
 use Rattle.hits.proofs.Hit as T
 use Rattle.hits.proofs.Hit.Laws as T′
@@ -64,14 +65,11 @@ use Rattle.hits.proofs.fill.Code as code
 use Rattle.hits.proofs.fill.Code.Mir as m
 
 -- ---- numbers and tests
-scaled : (i n : ℕ) → i < n → n * 16 < 2 ^ 63 → i * 16 < 2 ^ 64
-scaled i n l r = omega arith
-
-scaled4 : (i n : ℕ) → i < n → n * 4 < 2 ^ 63 → i * 4 < 2 ^ 64
-scaled4 i n l r = omega arith
-
-scaled8 : (i n : ℕ) → i < n → n * 8 < 2 ^ 63 → i * 8 < 2 ^ 64
-scaled8 i n l r = omega arith
+scaled : (s i n : ℕ) → i < n → n * s < 2 ^ 63 → i * s < 2 ^ 64
+scaled s i n l r = go (i * s) (n * s) (mul-le-mul-right s (omega arith)) r
+  where
+    go : (a b : ℕ) → a ≤ b → b < 2 ^ 63 → a < 2 ^ 64
+    go a b h r = omega arith
 
 up : (i n : ℕ) → i < n → n < 2 ^ 64 → i + 1 < 2 ^ 64
 up i n l r = omega arith
@@ -273,7 +271,7 @@ module _ {M : Type 1} (𝓤 : URA M) (H : Heap 𝓤) (A : Atoms 𝓤) (W : Given
         rewrite ! 3 (λ (j : ℕ). ‵ (fat fullShare word l₆ 0 (vint w64 j))) (add-one i) refl $ by ! then)
       where
         m₀ : i * 16 < 2 ^ 64
-        m₀ = scaled i (length ys) (within i n (length ys) l (w .records)) (g .1)
+        m₀ = scaled 16 i (length ys) (within i n (length ys) l (w .records)) (g .1)
 
         m₊ : i + 1 < 2 ^ 64
         m₊ = up i n l gn
@@ -320,10 +318,10 @@ module _ {M : Type 1} (𝓤 : URA M) (H : Heap 𝓤) (A : Atoms 𝓤) (W : Given
         e₂ copying = within i n (length ds) l (w .copied (is-true copy copying) .1)
 
         m₁ : Holds copy → i * 4 < 2 ^ 64
-        m₁ copying = scaled4 i (length is) (e₁ copying) (g₁ .1)
+        m₁ copying = scaled 4 i (length is) (e₁ copying) (g₁ .1)
 
         m₂ : Holds copy → i * 8 < 2 ^ 64
-        m₂ copying = scaled8 i (length ds) (e₂ copying) (g₂ .1)
+        m₂ copying = scaled 8 i (length ds) (e₂ copying) (g₂ .1)
 
     -- the turn that leaves the loop, and the rest of the body
     ends : (X : SProp 𝓤) → ent 𝓤 (⋆ 𝓤 H A (At n)) (Wp 𝓤 H C Λ En m.turn-1 (afterTurn 𝓤 H X Left))

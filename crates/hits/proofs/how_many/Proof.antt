@@ -6,7 +6,7 @@ use borrow.Author.Needs.{needs}
 use borrow.Author.Tests.{ne-eqb}
 use Rattle.search.specs.declared.Found.{Found}
 use Rattle.search.specs.declared.Found.the-variants.{Refused}
-use Rattle.hits.specs.Records.{how-many}
+use Rattle.hits.specs.Filling.{how-many}
 use Rattle.hits.proofs.how_many.Statement.{statement}
 use Rattle.hits.proofs.how_many.Tie as tie
 

@@ -57,7 +57,8 @@ use Rattle.radius.proofs.within_radius_capped.Symbol as capped-def
 use Rattle.radius.proofs.within_radius_capped.Symbol.{name as #radius·within-radius-capped}
 use Rattle.radius.proofs.within_radius_capped.Met as capped-thm
 use Rattle.hits.specs.declared.Hit.{Hit}
-use Rattle.hits.specs.Records.{recorded, InRecords, copies, how-many, from-slices, filled, Enough}
+use Rattle.hits.specs.Records.{recorded, InRecords}
+use Rattle.hits.specs.Filling.{copies, how-many, from-slices, filled, Enough}
 use Rattle.hits.proofs.Hit as T
 use Rattle.hits.proofs.Records.{filled-recorded, answered-enough}
 use Rattle.hits.proofs.Lent.{LentAgain, LentShared, lends-again, comes-back, lends-shared, shared-comes-back}
