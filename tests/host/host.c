@@ -21,6 +21,14 @@ static void expect(int good, const char *what, int line) {
 }
 #define EXPECT(e) expect((e) != 0, #e, __LINE__)
 
+/* how often each number was returned: a run in which one never is has missed something */
+static unsigned long returned[10];
+static uint32_t saw(uint32_t r) {
+    EXPECT(r < 10);
+    returned[r % 10]++;
+    return r;
+}
+
 /* ---- numbers at random */
 
 static uint64_t seed = 20240917;
@@ -205,7 +213,7 @@ static int accepted(const Tree *t) {
 static void build(Tree *t, uint32_t leaf, uint32_t number, uint32_t detail) {
     Buffer d = buffer(1, 4);
     keep_tree(t);
-    EXPECT(yt_build(POINTS(t), leaf, NODES(t), words(&d)) == number);
+    EXPECT(saw(yt_build(POINTS(t), leaf, NODES(t), words(&d))) == number);
     EXPECT(*words(&d) == detail && guards_whole(&d));
     if (number) EXPECT(tree_kept(t));
     else {
@@ -218,7 +226,7 @@ static void build(Tree *t, uint32_t leaf, uint32_t number, uint32_t detail) {
 static void check(Tree *t, uint32_t number, uint32_t detail) {
     Buffer d = buffer(1, 4);
     keep_tree(t);
-    EXPECT(yt_check(TREE(t), words(&d)) == number);
+    EXPECT(saw(yt_check(TREE(t), words(&d))) == number);
     EXPECT(*words(&d) == detail && guards_whole(&d) && tree_kept(t));
     drop(&d);
 }
@@ -235,7 +243,7 @@ static void nearest(Tree *t, double x, double y, int sound, const Hit *first) {
     uint32_t n = (uint32_t)(len(&t->points) / 2);
     keep(&i);
     keep(&d);
-    uint32_t r = yt_nearest(TREE(t), x, y, words(&i), floats(&d), words(&c));
+    uint32_t r = saw(yt_nearest(TREE(t), x, y, words(&i), floats(&d), words(&c)));
     EXPECT(tree_kept(t) && guards_whole(&i) && guards_whole(&d) && guards_whole(&c));
     EXPECT(r == 0 || (r == 9 && !sound));
     if (r == 9) EXPECT(*words(&c) == 0 && all_zero(&i) && all_zero(&d));
@@ -254,7 +262,7 @@ static void filled(Tree *t, double x, double y, int sound, uint32_t r, Buffer *i
     size_t room = d && len(d) < len(i) ? len(d) : len(i);
     uint32_t count = *words(c);
     EXPECT(tree_kept(t) && guards_whole(c) && guards_whole(i) && (!d || guards_whole(d)));
-    EXPECT(r == 0 || r == 8 || r == 9);
+    EXPECT(saw(r) == 0 || r == 8 || r == 9);
     if (sound) EXPECT(r == (due > room ? 8u : 0u) && count == due);
     if (r == 9) EXPECT(count == 0 && all_zero(i) && (!d || all_zero(d)));
     if (r == 8) EXPECT(count > room && kept_from(i, 0) && (!d || kept_from(d, 0)));
@@ -376,7 +384,7 @@ static void label(Tree *t, double epsilon, uint32_t m, size_t labels, size_t wor
     keep_tree(t);
     keep(&l);
     keep(&w);
-    EXPECT(yt_label(POINTS(t), epsilon, m, NODES(t), words(&l), len(&l), words(&w), len(&w), words(&d)) == number);
+    EXPECT(saw(yt_label(POINTS(t), epsilon, m, NODES(t), words(&l), len(&l), words(&w), len(&w), words(&d))) == number);
     EXPECT(*words(&d) == detail && guards_whole(&d) && kept_from(&t->points, 0));
     if (number || quiet) EXPECT(tree_kept(t) && kept_from(&w, 0));
     if (number) EXPECT(kept_from(&l, 0));
@@ -516,7 +524,7 @@ static void refused(Tree *t, double x, double y, double radius, uint32_t number)
     keep_tree(t);
     keep(&i);
     keep(&d);
-    EXPECT(yt_radius(TREE(t), x, y, radius, words(&i), 3, floats(&d), 2, words(&c)) == number && *words(&c) == 0);
+    EXPECT(saw(yt_radius(TREE(t), x, y, radius, words(&i), 3, floats(&d), 2, words(&c))) == number && *words(&c) == 0);
     *words(&c) = 7;
     EXPECT(yt_radius_indices(TREE(t), x, y, radius, words(&i), 3, words(&c)) == number && *words(&c) == 0);
     if (number != 5) {
@@ -582,6 +590,45 @@ static void test_empty(void) {
     EXPECT(yt_label(NULL, 0, 1, 1, NULL, 0, NULL, 0, NULL, 0, NULL, 0, NULL, 0, &c) == 0 && c == 0);
 }
 
+/* Answers worked out by hand. */
+static Tree map_of(const double *xy, uint32_t n) {
+    Tree t = tree(2 * n, n, 6, 4);
+    memcpy(t.points.at, xy, t.points.bytes);
+    build(&t, YT_DEFAULT_LEAF_SIZE, 0, 0);
+    return t;
+}
+/* k-nearest, or with a radius that search */
+static void found(Tree *t, double x, double y, double radius, uint32_t k, uint32_t count, const uint32_t *indices, const double *distances) {
+    uint32_t i[4], c;
+    double d[4];
+    uint32_t r = radius < 0 ? yt_k_nearest(TREE(t), x, y, k, i, 4, d, 4, &c) : yt_radius(TREE(t), x, y, radius, i, 4, d, 4, &c);
+    EXPECT(r == 0 && c == count);
+    for (uint32_t j = 0; j < count; j++) EXPECT(i[j] == indices[j] && d[j] == distances[j]);
+}
+static void test_by_hand(void) {
+    Tree q = map_of((double[]){0, 0, 3, 4, 6, 8, -3, 4}, 4);
+    found(&q, 0, 4, -1, 1, 1, (uint32_t[]){1}, (double[]){3});
+    found(&q, 0, 4, -1, 3, 3, (uint32_t[]){1, 3, 0}, (double[]){3, 3, 4});
+    found(&q, 0, 4, -1, 9, 4, (uint32_t[]){1, 3, 0, 2}, (double[]){3, 3, 4, sqrt(52)});
+    found(&q, 0, 4, 3, 0, 2, (uint32_t[]){1, 3}, (double[]){3, 3});
+    found(&q, 0, 4, 2.5, 0, 0, NULL, NULL);
+    found(&q, 3, 4, 0, 0, 1, (uint32_t[]){1}, (double[]){0});
+    drop_tree(&q);
+    Tree far = map_of((double[]){1e308, 0}, 1), tiny = map_of((double[]){0, 0, 1e-200, 0}, 2);
+    found(&far, -1e308, 0, -1, 1, 1, (uint32_t[]){0}, (double[]){INFINITY});
+    found(&tiny, 0, 0, 1e-200, 0, 2, (uint32_t[]){0, 1}, (double[]){0, 0});
+    drop_tree(&far);
+    drop_tree(&tiny);
+    Tree two = map_of((double[]){0, 0, 1, 0, 0, 1, 10, 10, 11, 10, 10, 11}, 6), one = map_of((double[]){0, 0, 1, 0, 0, 1, 100, 100}, 4);
+    Tree line = map_of((double[]){0, 0, 1, 0, 1.5, 0, 2, 0, -1, 0, -1.5, 0, -2, 0}, 7);
+    label(&two, 2, 2, 6, 12, 0, 0, (uint32_t[]){0, 0, 0, 1, 1, 1});
+    label(&one, 2, 2, 4, 8, 0, 0, (uint32_t[]){0, 0, 0, YT_NOISE});
+    label(&line, 1, 4, 7, 14, 0, 0, (uint32_t[]){0, 0, 0, 0, 1, 1, 1});
+    drop_tree(&two);
+    drop_tree(&one);
+    drop_tree(&line);
+}
+
 int main(int argc, char **argv) {
     if (argc != 3) {
         fprintf(stderr, "host: GUARD and ROUNDS are needed\n");
@@ -594,6 +641,7 @@ int main(int argc, char **argv) {
     test_root(rounds);
     test_counts();
     test_empty();
+    test_by_hand();
     test_refusals();
     test_cut();
     for (unsigned r = 0; r < rounds; r++)
@@ -603,6 +651,7 @@ int main(int argc, char **argv) {
                 test_map(map, sizes[k], leaves[(k + r + (unsigned)map) % 6]);
             }
     test_damage(rounds);
+    for (int k = 0; k < 10; k++) EXPECT(returned[k] > 0);
     printf("host: %lu checks, %lu failed\n", checks, failures);
     return failures != 0;
 }
