@@ -1,0 +1,2 @@
+-- What the contracts of `station` cite.
+pub mod Good
