@@ -3,7 +3,7 @@
  * writes the same bytes.
  *
  * From the repository's root:
- *   gcc -O2 -o /tmp/root_vectors oracle/root_vectors.c -lm && /tmp/root_vectors > crates/root_vectors/stdin
+ *   gcc -O2 -o target/root_vectors oracle/root_vectors.c -lm && target/root_vectors > crates/root_vectors/stdin
  * It says on standard error how many it wrote; crates/root_vectors/stdout holds that number.
  */
 #include <inttypes.h>
