@@ -270,7 +270,7 @@ void query_rows(const Map &m)
 /* CPU seconds by an outside program; below 0 where it fails. */
 double outside(const char *command, const Map &m, uint32_t min_samples, double labelled)
 {
-    char file[] = "/tmp/bench-points-XXXXXX";
+    char file[] = P_tmpdir "/bench-points-XXXXXX";
     int fd = mkstemp(file);
     FILE *f = fd < 0 ? nullptr : fdopen(fd, "wb");
     if (!f)
