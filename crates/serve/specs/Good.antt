@@ -1,11 +1,11 @@
--- What a turn of the station keeps.
+-- What a turn keeps.
 --   Good n s                where the input slice has n entries: what is used lies in what is there, and that in the slice
 --   Slid before from to now the bytes from..to stand at the start, and no byte past them has changed
 use Prim.Native.Nat.{ℕ, _-_, _≤_}
 use mathlib.Core.Path.{_≡_}
 use mathlib.Core.List.{List}
 use lib.ListN.{take, drop}
-use Rattle.station.specs.declared.State.{State}
+use Rattle.serve.specs.declared.State.{State}
 
 pub record Good (n : ℕ) (s : State) : Type 0 where
   pub used : s .used ≤ s .have

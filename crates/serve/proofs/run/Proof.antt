@@ -1,43 +1,43 @@
--- `station::main` meets its contract: the arrays have the lengths that are asked for. Assumes nothing.
-use Rattle.station.proofs.Started.{started}
+-- `serve::run` meets its contract: the arrays have the lengths that are asked for. Assumes nothing.
+use Rattle.serve.proofs.Started.{started}
 use borrow.Author.Needs.{needs}
-use Rattle.station.proofs.main.Statement.{statement}
-use Rattle.station.proofs.main.Tie as tie
+use Rattle.serve.proofs.run.Statement.{statement}
+use Rattle.serve.proofs.run.Tie as tie
 
--- src/main.rt:166:9
+-- src/lib.rt:166:9
 slice-aggregate-drive : tie.Need-slice-aggregate-drive
 slice-aggregate-drive c = search needs
 
--- src/main.rt:167:9
+-- src/lib.rt:167:9
 slice-aggregate-drive-2 : tie.Need-slice-aggregate-drive-2
 slice-aggregate-drive-2 c = search needs
 
--- src/main.rt:168:9
+-- src/lib.rt:168:9
 slice-aggregate-drive-3 : tie.Need-slice-aggregate-drive-3
 slice-aggregate-drive-3 c = search needs
 
--- src/main.rt:169:9
+-- src/lib.rt:169:9
 slice-aggregate-drive-4 : tie.Need-slice-aggregate-drive-4
 slice-aggregate-drive-4 c = search needs
 
--- src/main.rt:170:9
+-- src/lib.rt:170:9
 slice-aggregate-drive-5 : tie.Need-slice-aggregate-drive-5
 slice-aggregate-drive-5 c = search needs
 
--- src/main.rt:171:9
+-- src/lib.rt:171:9
 slice-aggregate-drive-6 : tie.Need-slice-aggregate-drive-6
 slice-aggregate-drive-6 c = search needs
 
--- src/main.rt:165:5
+-- src/lib.rt:165:5
 drive-requires : tie.Need-drive-requires
 drive-requires c κs = started _ _ _ _ (search needs) (search needs) (search needs) (search needs)
 
--- src/main.rt:158:1
+-- src/lib.rt:158:1
 returns : tie.Need-returns
 returns c = search needs
 
-pub main-spec : {M : Type 1} → statement M
-main-spec =
+pub run-spec : {M : Type 1} → statement M
+run-spec =
     tie.close
     (tie.spec
     slice-aggregate-drive

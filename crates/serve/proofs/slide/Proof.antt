@@ -1,10 +1,10 @@
--- `station::slide` meets its contract: the bytes up to i have moved. Assumes nothing.
+-- `serve::slide` meets its contract: the bytes up to i have moved. Assumes nothing.
 use Prim.Native.Nat.{_-_}
-use Rattle.station.proofs.Sliding.{Sliding, begun, moves, ended}
+use Rattle.serve.proofs.Sliding.{Sliding, begun, moves, ended}
 use native.Mathlib.Omega.{arith}
 use borrow.Author.Needs.{needs}
-use Rattle.station.proofs.slide.Statement.{statement}
-use Rattle.station.proofs.slide.Tie as tie
+use Rattle.serve.proofs.slide.Statement.{statement}
+use Rattle.serve.proofs.slide.Tie as tie
 
 abbrev Inv-loop : tie.InvT-loop
 Inv-loop buf₀ from to n i₀ buf i = Sliding buf₀ from to buf i
@@ -12,43 +12,43 @@ Inv-loop buf₀ from to n i₀ buf i = Sliding buf₀ from to buf i
 abbrev μ-loop : tie.MeasureT-loop
 μ-loop buf₀ from to n i₀ buf i = n - i
 
--- src/main.rt:23:13
+-- src/lib.rt:23:13
 sub-n : tie.Need-sub-n Inv-loop μ-loop
 sub-n c = search needs
 
--- src/main.rt:25:5
+-- src/lib.rt:25:5
 loop-holds : tie.Need-loop-holds Inv-loop μ-loop
 loop-holds c = let a = c .args in begun (a .buf .now) (a .from) (a .to) (omega arith) (omega arith)
 
--- src/main.rt:26:22
+-- src/lib.rt:26:22
 add-buf : tie.Need-add-buf Inv-loop μ-loop
 add-buf c = search needs
 
--- src/main.rt:26:18
+-- src/lib.rt:26:18
 slice-read-buf : tie.Need-slice-read-buf Inv-loop μ-loop
 slice-read-buf c = search needs
 
--- src/main.rt:26:9
+-- src/lib.rt:26:9
 slice-write-buf : tie.Need-slice-write-buf Inv-loop μ-loop
 slice-write-buf c = search needs
 
--- src/main.rt:27:9
+-- src/lib.rt:27:9
 add-i : tie.Need-add-i Inv-loop μ-loop
 add-i c = search needs
 
--- src/main.rt:25:5
+-- src/lib.rt:25:5
 loop-less : tie.Need-loop-less Inv-loop μ-loop
 loop-less c = search needs
 
--- src/main.rt:25:5
+-- src/lib.rt:25:5
 loop-again : tie.Need-loop-again Inv-loop μ-loop
 loop-again c = let a = c .before .before .before .args in let l = c .before .before .loop in moves (a .buf .now) (a .from) (a .to) (omega arith) (omega arith) (l .buf) (l .i) (l .inv) (c .before .loop-test .taken)
 
--- src/main.rt:19:1
+-- src/lib.rt:19:1
 same-length : tie.Need-same-length Inv-loop μ-loop
 same-length c = search needs
 
--- src/main.rt:19:1
+-- src/lib.rt:19:1
 returns : tie.Need-returns Inv-loop μ-loop
 returns c = let a = c .before .before .args in let l = c .before .loop in ended (a .buf .now) (a .from) (a .to) (omega arith) (omega arith) (l .buf) (l .i) (l .inv) (c .loop-test .left)
 

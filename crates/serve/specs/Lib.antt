@@ -1,0 +1,2 @@
+-- What the contracts of `serve` cite.
+pub mod Good

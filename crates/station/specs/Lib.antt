@@ -1,2 +1,0 @@
--- What the contracts of `station` cite.
-pub mod Good
