@@ -1,6 +1,7 @@
 //! record FOLDER: writes the original's answers over the domain to FOLDER, for programs that replay them.
 //!   answers.txt            maps under many leaf sizes; a line is a letter and words of 16 upper-case hex digits
-//!   station.stdin, .stdout one growing map, as the station's records and the lines that it has to print
+//!   station.stdin, .stdout one growing map, as the station's records and the lines that it has to print;
+//!                          crates/replay_station has them as its stdin and stdout
 //! Only questions whose answer is one are kept: no two of the points asked about are equally far, and radius hits are put
 //! by rising index, as this library gives them. The seed is fixed: every run writes the same bytes.
 
