@@ -9,3 +9,4 @@ pub mod Labelled
 pub mod Steps
 pub mod Turns
 pub mod Pieces
+pub mod Once
