@@ -7,6 +7,8 @@ pub mod Several
 pub mod Around
 pub mod Labelled
 pub mod Steps
+pub mod Started
 pub mod Turns
 pub mod Pieces
+pub mod Printing
 pub mod Once

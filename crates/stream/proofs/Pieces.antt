@@ -3,7 +3,7 @@
 -- A record that is whole in a piece is the same record, whatever follows; by induction on the records taken. Assumes nothing.
 use Prim.Native.Nat.{ℕ, _+_, _-_, _≤_, _<_}
 use mathlib.Core.Path.{_≡_, refl, ap, sym, subst, _∙_}
-use mathlib.Core.List.{List, [], _++_, append-assoc}
+use mathlib.Core.List.{List, _++_, append-assoc}
 use mathlib.Core.Bool.{Bool, true, false, cond}
 use native.Mathlib.Omega.{arith}
 use lib.ListN.{length, drop, getD, length-append, length-drop, List·getD-append}
@@ -88,15 +88,15 @@ module _ (s u : List ℕ) (at : ℕ) where
       drop-append-le (next - at) (drop at s) u (omega (arith, length-drop at s)) ∙ ap (λ (l : List ℕ). l ++ u) (drop-drop (next - at) at s ∙ ap (λ (k : ℕ). drop k s) q)
 
 -- ---- what follows a piece is read after what the piece left; a piece that ended the stream has printed all
-module _ (s u : List ℕ) (from : ℕ) (p : List Float) where
-  pub joined-on : {t : List ℕ} {at : ℕ} {q : List Float} {g : Bool} → Takes s from p t at q g → g ≡ true → (t′ : List ℕ) → Output q (drop at s ++ u) t′
+module _ (s u : List ℕ) (from : ℕ) (p : List Float) {room : ℕ} where
+  pub joined-on : {t : List ℕ} {at : ℕ} {q : List Float} {g : Bool} → Takes room s from p t at q g → g ≡ true → (t′ : List ℕ) → Output q (drop at s ++ u) t′
       → Output p (drop from s ++ u) (t ++ t′)
   joined-on f.none g t′ o = o
-  joined-on (f.then {t} {at} {next} {q} what v k e w) g t′ o =
+  joined-on (f.then {t} {at} {next} {q} what v k b e w) g t′ o =
       subst (Output p (drop from s ++ u)) (sym (append-assoc t v t′))
       (joined-on k refl (v ++ t′)
       (more what (next - at) v t′ (shift s u at what next e) g w (subst (λ (l : List ℕ). Output (after q what) l t′) (sym (rest s u at what next e)) o)))
 
-  pub joined-off : {t : List ℕ} {at : ℕ} {q : List Float} {g : Bool} → Takes s from p t at q g → g ≡ false → Output p (drop from s ++ u) t
+  pub joined-off : {t : List ℕ} {at : ℕ} {q : List Float} {g : Bool} → Takes room s from p t at q g → g ≡ false → Output p (drop from s ++ u) t
   joined-off f.none g = absurd (subst T g tt)
-  joined-off (f.then {t} {at} {next} {q} what v k e w) g = joined-on k refl v (last what (next - at) v (shift s u at what next e) g w)
+  joined-off (f.then {t} {at} {next} {q} what v k b e w) g = joined-on k refl v (last what (next - at) v (shift s u at what next e) g w)

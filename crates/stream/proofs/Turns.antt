@@ -22,7 +22,7 @@ use Rattle.stream.specs.declared.Step.{Step}
 use Rattle.stream.specs.declared.Stop.the-variants.{Hungry, Full, Done}
 use Rattle.stream.specs.Stream.{goes}
 use Rattle.stream.specs.Feeding as f
-use Rattle.stream.specs.Feeding.{so-far, Ready, Stepped, Takes, Wants, FedBy}
+use Rattle.stream.specs.Feeding.{so-far, Ready, longest, Stepped, Takes, Wants, FedBy}
 
 whole-cond : (b d : Bool) (r q : Record) (k next : ℕ) → cond b (cond d (Whole r k) Cut) End ≡ Whole q next → (b ≡ true) × (d ≡ true) × (k ≡ next) × (r ≡ q)
 whole-cond true true r q k next e = (refl, refl, cc, cc)
@@ -44,7 +44,7 @@ place s at what next e =
 pub record Fine (s : List ℕ) (from : ℕ) (p₀ : List Float) (n₀ : ℕ) (out₀ : List ℕ) (p : List Float) (indices : List ℕ) (boxes : List Float)
     (links out : List ℕ) (at n w : ℕ) (fresh : Bool) : Type 0 where
   pub text : List ℕ
-  pub takes : Takes s from (so-far p₀ n₀) text at (so-far p n) true
+  pub takes : Takes (length out₀) s from (so-far p₀ n₀) text at (so-far p n) true
   pub put : Put out₀ 0 text out w
   pub ready : Ready p n indices boxes links fresh
   pub room : w ≤ length out₀
@@ -61,9 +61,9 @@ module _ (s : List ℕ) (from : ℕ) (p₀ : List Float) (n₀ : ℕ) (out₀ : 
     pub full : length out - w < 32768 → FedBy s from p₀ n₀ out₀ p i b l out (record { used = at; count = n; wrote = w; fresh = fresh; stop = Full })
     full h = record { text = F .text; takes = F .takes; ends = omega (arith, same-size); put = F .put; ready = F .ready; inside = F .inside; room = F .room }
 
-    pub hungry : (x : Read) → x ≡ read-at s at → OneOf (1 ∷ 2 ∷ []) (tagOf the-type x)
+    pub hungry : 32768 ≤ length out - w → (x : Read) → x ≡ read-at s at → OneOf (1 ∷ 2 ∷ []) (tagOf the-type x)
         → FedBy s from p₀ n₀ out₀ p i b l out (record { used = at; count = n; wrote = w; fresh = fresh; stop = Hungry })
-    hungry x e o = record { text = F .text; takes = F .takes; ends = subst Wants e (wants x o); put = F .put; ready = F .ready; inside = F .inside; room = F .room }
+    hungry h x e o = record { text = F .text; takes = F .takes; ends = record { wants = subst Wants e (wants x o); room = omega (arith, same-size) }; put = F .put; ready = F .ready; inside = F .inside; room = F .room }
       where
         wants : (x : Read) → OneOf (1 ∷ 2 ∷ []) (tagOf the-type x) → Wants x
         wants (Whole r next) o = absurd (⊎-elim (λ k. omega arith) (λ k. omega arith) o)
@@ -81,10 +81,13 @@ module _ (s : List ℕ) (from : ℕ) (p₀ : List Float) (n₀ : ℕ) (out₀ : 
       within : next ≤ length s
       within = let P = place s at what next e in omega (arith, P .before, P .body, P .past)
 
-      taken : (g : Bool) → goes what ≡ g → Takes s from (so-far p₀ n₀) (F .text ++ q .replies .text) next (so-far p′ (d .count)) g
+      before : length (F .text) + longest ≤ length out₀
+      before = omega (arith, same-size, F .put .past, h)
+
+      taken : (g : Bool) → goes what ≡ g → Takes (length out₀) s from (so-far p₀ n₀) (F .text ++ q .replies .text) next (so-far p′ (d .count)) g
       taken g z =
-          subst (λ (x : List Float). Takes s from (so-far p₀ n₀) (F .text ++ q .replies .text) next x g) (sym (q .points))
-          (subst (Takes s from (so-far p₀ n₀) (F .text ++ q .replies .text) next _) z (f.then what (q .replies .text) (F .takes) e (q .replies .prints)))
+          subst (λ (x : List Float). Takes (length out₀) s from (so-far p₀ n₀) (F .text ++ q .replies .text) next x g) (sym (q .points))
+          (subst (Takes (length out₀) s from (so-far p₀ n₀) (F .text ++ q .replies .text) next _) z (f.then what (q .replies .text) (F .takes) before e (q .replies .prints)))
 
       pub turn : d .going ≡ true → Fine s from p₀ n₀ out₀ p′ i′ b′ l′ out′ next (d .count) (d .wrote) (d .fresh)
       turn g = record {

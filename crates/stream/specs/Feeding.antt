@@ -4,14 +4,17 @@
 --   Kept p n x y p' r        a point was kept after n others, and r is 0; or it was refused by the number r
 --   Replies what t o at o' w the query `what` over the points of a tree t was answered: its lines stand in o' from `at` on
 --   Stepped ..               one record was taken
---   Takes s from p text at q going   records of s from `from` on, the points so far p, printed text; then at is the place,
---                            q the points so far, and the stream goes on or not
---   Ends stop s at left      why no further record was taken, with room for `left` bytes left
+--   longest                  no record's lines are longer; none is taken where there is room for less
+--   Takes room s from p text at q going   records of s from `from` on, the points so far p, printed text, each where `longest`
+--                            of `room` bytes were left; then at is the place, q the points so far, and the stream goes on or not
+--   Wants r                  no whole record was read
+--   Ends stop s at left      why no further record was taken, with room for `left` bytes left: the room is tested first
+--   on stop                  the stream goes on
 --   FedBy ..                 what `feed` makes of a piece
 use mathlib.Core.Path.{_≡_}
 use mathlib.Core.List.{List, [], _∷_, _++_}
 use mathlib.Core.Bool.{Bool, true, false, cond}
-use Prim.Native.Nat.{ℕ, _-_, _*_, _≤_, _<_}
+use Prim.Native.Nat.{ℕ, _+_, _-_, _*_, _≤_, _<_}
 use lib.Dec.{eqb}
 use lib.ListN.{length, take}
 use lib.Seq.{sets}
@@ -46,7 +49,6 @@ pub record Kept (p : List Float) (n : ℕ) (x y : Float) (p′ : List Float) (r 
   pub number : r ≡ keep-number n x y
   pub points : p′ ≡ cond (eqb r 0) (sets p (2 * n) (x ∷ y ∷ [])) p
 
--- no record's lines are longer than this
 abbrev pub longest : ℕ
 longest = 32768
 
@@ -63,19 +65,22 @@ pub record Stepped (what : Record) (p : List Float) (n : ℕ) (out : List ℕ) (
   pub ready : Ready p′ (s .count) indices′ boxes′ links′ (s .fresh)
   pub going : s .going ≡ goes what
 
-pub data Takes (s : List ℕ) (from : ℕ) (p : List Float) : List ℕ → ℕ → List Float → Bool → Type 0 where
-  none : Takes s from p [] from p true
-  then : {t : List ℕ} {at next : ℕ} {q : List Float} (what : Record) (u : List ℕ) → Takes s from p t at q true → read-at s at ≡ Whole what next → Prints q what u
-      → Takes s from p (t ++ u) next (after q what) (goes what)
+pub data Takes (room : ℕ) (s : List ℕ) (from : ℕ) (p : List Float) : List ℕ → ℕ → List Float → Bool → Type 0 where
+  none : Takes room s from p [] from p true
+  then : {t : List ℕ} {at next : ℕ} {q : List Float} (what : Record) (u : List ℕ) → Takes room s from p t at q true → length t + longest ≤ room
+      → read-at s at ≡ Whole what next → Prints q what u → Takes room s from p (t ++ u) next (after q what) (goes what)
 
--- no whole record is there
 abbrev pub Wants : Read → Type 0
 Wants (Whole what next) = ⊥
 Wants Cut = Unit
 Wants End = Unit
 
+pub record Waits (s : List ℕ) (at left : ℕ) : Type 0 where
+  pub wants : Wants (read-at s at)
+  pub room : longest ≤ left
+
 abbrev pub Ends : Stop → List ℕ → ℕ → ℕ → Type 0
-Ends Hungry s at left = Wants (read-at s at)
+Ends Hungry s at left = Waits s at left
 Ends Full s at left = left < longest
 Ends Done s at left = Unit
 
@@ -87,7 +92,7 @@ on Done = false
 pub record FedBy (s : List ℕ) (from : ℕ) (p : List Float) (n : ℕ) (out : List ℕ)
     (p′ : List Float) (indices′ : List ℕ) (boxes′ : List Float) (links′ out′ : List ℕ) (f : Fed) : Type 0 where
   pub text : List ℕ
-  pub takes : Takes s from (so-far p n) text (f .used) (so-far p′ (f .count)) (on (f .stop))
+  pub takes : Takes (length out) s from (so-far p n) text (f .used) (so-far p′ (f .count)) (on (f .stop))
   pub ends : Ends (f .stop) s (f .used) (length out - f .wrote)
   pub put : Put out 0 text out′ (f .wrote)
   pub ready : Ready p′ (f .count) indices′ boxes′ links′ (f .fresh)

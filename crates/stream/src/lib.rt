@@ -1,22 +1,21 @@
 // The record stream on slices: points are kept, queries over the points so far are answered as lines.
 //
-// `feed` takes the whole records of a piece of input, as far as there is room for their lines, and says where it stopped; the
-// caller writes the lines out and comes back with what was left and more. A tree of the points is built for the first query
-// after a point came, and kept until the next one comes. Whatever the pieces, they print what the whole prints.
+// `print_all` prints a whole stream at once, from any slices whatever. It stands on `feed`, which takes the whole records of a
+// piece of input, as far as there is room for their lines, and says where it stopped; the caller writes the lines out and comes
+// back with what was left and more. A tree of the points is built for the first query after a point came, and kept until the
+// next one comes. Whatever the pieces, they print what the whole prints.
 use build::BallTreeBuilder;
 use dbscan::Labelling;
 use nearest::Nearest;
 use records::Read;
 use records::Record;
 use search::Found;
-ghost use mathlib.Core.Path.{_≡_};
-ghost use mathlib.Core.Bool.{true};
-ghost use Prim.Native.Nat.{_+_, _*_, _<_, _≤_};
+ghost use Prim.Native.Nat.{_+_, _≤_};
 ghost use lib.ListN.{length};
-ghost use lib.Ieee.{isNan};
 ghost use Rattle.tree.specs.Accepted.{tree, Accepted};
 ghost use Rattle.records.specs.declared.Record.the-variants.{Nearest as AskNearest, KNearest as AskKNearest, Radius as AskRadius, Label as AskLabel};
-ghost use Rattle.stream.specs.Feeding.{so-far, Ready, Kept, Replies, Stepped, FedBy};
+ghost use Rattle.stream.specs.Feeding.{Ready, Kept, Replies, Stepped, FedBy};
+ghost use Rattle.stream.specs.Printing.{PrintedBy};
 ghost use Rattle.text.specs.Line.{Put};
 ghost use Rattle.stream.specs.Asked.{Raising, Asking, Listing, Labelling as Labels, Plain, Writes, found-text, Query};
 
@@ -48,6 +47,16 @@ pub struct Fed {
     pub wrote: usize,
     pub fresh: bool,
     pub stop: Stop,
+}
+
+// After a whole stream: where its lines end.
+pub enum Printed {
+    // They are all there.
+    Whole(usize),
+    // Fewer than 32,768 bytes of room were left before the next record or the end: these are the lines up to there.
+    Full(usize),
+    // A slice for the points or their tree is too short: none has changed.
+    Short,
 }
 
 // ---- the points
@@ -378,6 +387,8 @@ fn take_one(
 }
 
 // Takes the whole records of `input` from `from` on, as far as there is room in `out`, which it fills from its start.
+// An inner function: it is handed the points and the tree that it left, so it asks that they still stand. Its callers are
+// `print_all`, and `serve::run`, which keeps them between pieces; neither asks anything.
 pub fn feed(
     input: &[u8],
     from: usize,
@@ -427,5 +438,45 @@ pub fn feed(
         wrote: w,
         fresh: up,
         stop: Stop::Full,
+    }
+}
+
+// Prints the whole stream of `input` into `out`, from its start. Any slices do; points, indices, boxes and links are work, and hold
+// what it left.
+pub fn print_all(
+    input: &[u8],
+    points: &mut [f64],
+    indices: &mut [u32],
+    boxes: &mut [f64],
+    links: &mut [u32],
+    out: &mut [u8],
+) -> Printed
+    ensures { λ r. ⌜ PrintedBy (now (input .entry)) (tree (now (points .entry)) (now (indices .entry)) (now (boxes .entry)) (now (links .entry))) (now (out .entry)) (tree (now (points .exit)) (now (indices .exit)) (now (boxes .exit)) (now (links .exit))) (now (out .exit)) r ⌝ }
+{
+    if points.len() < 2048 {
+        return Printed::Short;
+    }
+    if indices.len() < 1024 {
+        return Printed::Short;
+    }
+    if boxes.len() < 12288 {
+        return Printed::Short;
+    }
+    if links.len() < 8192 {
+        return Printed::Short;
+    }
+    let f = feed(input, 0, points, 0, indices, boxes, links, false, out);
+    let wrote = f.wrote;
+    let used = f.used;
+    let stop = f.stop;
+    match stop {
+        Stop::Full => Printed::Full(wrote),
+        Stop::Done => Printed::Whole(wrote),
+        Stop::Hungry => {
+            if used < input.len() {
+                return Printed::Whole(text::put_count(out, wrote, b'E', 10));
+            }
+            Printed::Whole(wrote)
+        }
     }
 }

@@ -1,5 +1,5 @@
 -- `serve::run` meets its contract: the arrays have the lengths that are asked for. Assumes nothing.
-use Rattle.serve.proofs.Started.{started}
+use Rattle.stream.proofs.Started.{started}
 use borrow.Author.Needs.{needs}
 use Rattle.serve.proofs.run.Statement.{statement}
 use Rattle.serve.proofs.run.Tie as tie

@@ -56,7 +56,7 @@ same-length-5 c = let a = c .before .before .before .before .before .before .bef
 
 -- src/lib.rt:365:13
 returns : tie.Need-returns Inv-loop μ-loop
-returns c = let a = c .before .before .before .before .before .before .before .before .before .before .args in let l = c .before .before .before .loop in hungry (a .input .now) (a .from) (a .points .now) (a .count) (a .out .now) (l .inv .0) _ (c .before .read-at .ensures) (c .match .keys2)
+returns c = let a = c .before .before .before .before .before .before .before .before .before .before .args in let l = c .before .before .before .loop in hungry (a .input .now) (a .from) (a .points .now) (a .count) (a .out .now) (l .inv .0) (c .before .before .loop-test .taken) _ (c .before .read-at .ensures) (c .match .keys2)
 
 -- src/lib.rt:373:13
 take-one-requires : tie.Need-take-one-requires Inv-loop μ-loop
