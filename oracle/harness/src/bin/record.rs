@@ -1,5 +1,6 @@
 //! record FOLDER: writes the original's answers over the domain to FOLDER, for programs that replay them.
-//!   answers.txt            maps under many leaf sizes; a line is a letter and words of 16 upper-case hex digits
+//!   answers.txt            maps under many leaf sizes; a line is a letter and words of 16 upper-case hex digits;
+//!                          crates/replay_answers has it as its stdin
 //!   station.stdin, .stdout one growing map, as the station's records and the lines that it has to print;
 //!                          crates/replay_station has them as its stdin and stdout
 //! Only questions whose answer is one are kept: no two of the points asked about are equally far, and radius hits are put
@@ -14,7 +15,7 @@ use std::path::Path;
 
 const HEAD: &str = "\
 # Answers of geo 0.33.1 (ball_tree.rs and dbscan.rs, unchanged; a scan in place of rstar's R-tree), recorded by
-# GEO_SRC=FOLDER oracle/run record oracle/recorded
+# GEO_SRC=FOLDER oracle/run record OUT, as OUT/answers.txt; this file is crates/replay_answers/stdin.
 # A line is a letter and words, one space between; a word is 16 upper-case hex digits: a float's bits, or a whole number.
 #   M leaf n                 a map of n points; n lines P x y follow
 #   N x y index distance     nearest

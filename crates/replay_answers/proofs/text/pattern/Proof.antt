@@ -1,0 +1,17 @@
+-- `pattern` is safe and ends: what equals itself is no NaN. Assumes nothing.
+use Rattle.root.proofs.Floats.{not-nan}
+use borrow.Author.Needs.{needs}
+use Rattle.replay_answers.proofs.text.pattern.Statement.{statement}
+use Rattle.replay_answers.proofs.text.pattern.Tie as tie
+
+returns : tie.Need-returns
+returns c = search needs
+
+float-to-bits-result : tie.Need-float-to-bits-result
+float-to-bits-result c = not-nan (c .before .args .x) (c .if1 .left)
+
+returns-2 : tie.Need-returns-2
+returns-2 c = search needs
+
+pub pattern-spec : {M : Type 1} → statement M
+pattern-spec = tie.close (tie.spec returns float-to-bits-result returns-2)
