@@ -7,7 +7,7 @@
  * against each other, so that none is optimised away or wrong unseen. A labels-command is run as `COMMAND FILE EPSILON
  * MIN_SAMPLES` over a file of points (x, y as doubles) and prints its CPU seconds and the number of labelled points.
  */
-#include "yolthugen_calls.h"
+#include "yolthugen.h"
 
 #include <algorithm>
 #include <cmath>
