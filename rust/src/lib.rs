@@ -3,7 +3,8 @@
 //!
 //! The names are those of geo's `ball_tree` and `dbscan`, for f64. What differs: nothing panics, so what geo would answer
 //! wrongly or not at all is a [`Refusal`], and every call returns a `Result`. The answers are a plain scan's by the rounded
-//! squared distance, the lower index first on a tie; radius hits come by rising index.
+//! squared distance, the lower index first on a tie; radius hits come by rising index. [`geo`] has the original's own paths and
+//! signatures, for whoever would change a `use` line and nothing else; there a refusal panics.
 //!
 //! ```
 //! use yolthugen::{point, BallTree};
@@ -14,6 +15,7 @@
 //! # Ok::<(), yolthugen::Refusal>(())
 //! ```
 mod calls;
+pub mod geo;
 mod labels;
 mod tree;
 
@@ -22,40 +24,52 @@ pub use tree::{BallTree, BallTreeBuilder, NearestNeighbour};
 
 use std::{error, fmt};
 
-/// A place of the plane.
+/// A place of the plane. All calls here take f64; the parameter lets the type be written out as in geo.
 #[derive(Debug, Clone, Copy, PartialEq, Default)]
-pub struct Coord {
-    pub x: f64,
-    pub y: f64,
+pub struct Coord<T = f64> {
+    pub x: T,
+    pub y: T,
 }
 
 /// A point of a map, or where a query stands.
 #[derive(Debug, Clone, Copy, PartialEq, Default)]
-pub struct Point(pub Coord);
+pub struct Point<T = f64>(pub Coord<T>);
 
-impl Point {
-    pub fn new(x: f64, y: f64) -> Self {
+impl<T> Point<T> {
+    pub fn new(x: T, y: T) -> Self {
         Point(Coord { x, y })
     }
 
-    pub fn x(self) -> f64 {
+    pub fn x(self) -> T {
         self.0.x
     }
 
-    pub fn y(self) -> f64 {
+    pub fn y(self) -> T {
         self.0.y
     }
 }
 
-impl From<Coord> for Point {
-    fn from(place: Coord) -> Self {
+impl<T> From<Coord<T>> for Point<T> {
+    fn from(place: Coord<T>) -> Self {
         Point(place)
     }
 }
 
-impl From<(f64, f64)> for Point {
-    fn from((x, y): (f64, f64)) -> Self {
+impl<T> From<(T, T)> for Point<T> {
+    fn from((x, y): (T, T)) -> Self {
         Point::new(x, y)
+    }
+}
+
+impl<T> From<Coord<T>> for (T, T) {
+    fn from(place: Coord<T>) -> Self {
+        (place.x, place.y)
+    }
+}
+
+impl<T> From<Point<T>> for (T, T) {
+    fn from(point: Point<T>) -> Self {
+        point.0.into()
     }
 }
 
