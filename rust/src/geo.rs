@@ -5,8 +5,8 @@
 //!   type of the query.
 //! - The answers are those of [`crate::BallTree`] and [`crate::Dbscan`]: where they differ from geo's, geo's rest on a rounding
 //!   or on the order of the map. Radius hits come by rising index.
-//! - What those refuse panics here, with the text of the [`Refusal`]: more than 1,048,576 points, a point or a
-//!   query that is not finite, a radius or an epsilon that is NaN or below zero. geo answers some of these, and wrongly.
+//! - What those refuse panics here, with the text of the [`Refusal`]: a point or a query that is not finite, a radius or an
+//!   epsilon that is NaN or below zero (geo answers these, squaring what is below zero), and more than 1,048,576 points.
 //! - Not here: f32, data carried with a point (`PointWithData`: the hit's index serves), and the trait `BallTreePoint`.
 pub mod ball_tree;
 pub mod dbscan;
