@@ -1,11 +1,11 @@
 // Each question of the recorded list is asked again, and its answer held to what stands there, indices and distances bit for
 // bit. A function is given the text from its line on: words stand at 2, 19, 36 and 53, and the lines of its answer follow.
-use crate::text::float;
-use crate::text::next_line;
-use crate::text::says;
-use crate::text::says_float;
-use crate::text::up_to;
-use crate::text::word;
+use crate::recorded::float;
+use crate::recorded::next_line;
+use crate::recorded::says;
+use crate::recorded::says_float;
+use crate::recorded::up_to;
+use crate::recorded::word;
 use build::BallTreeBuilder;
 use build::Building;
 use dbscan::Labelling;

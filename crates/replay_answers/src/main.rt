@@ -2,7 +2,7 @@
 // Standard input has them as text, as `oracle/run record` writes them; its head says the form. Standard output says how many
 // of each were asked, and whether all came as recorded, indices and distances bit for bit, or else the first that did not.
 mod answers;
-mod text;
+mod recorded;
 
 use libc::STDIN_FILENO;
 use libc::STDOUT_FILENO;
@@ -21,7 +21,7 @@ fn say_line(text: &[u8], left: usize) {
         return;
     }
     let from = text.len() - left;
-    let end = text::next_line(text, from);
+    let end = recorded::next_line(text, from);
     io::write_all(STDOUT_FILENO, &text[from..end]);
 }
 

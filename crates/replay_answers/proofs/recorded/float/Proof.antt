@@ -6,8 +6,8 @@ use lib.Dec.{T, eqb}
 use lib.Ieee.{nanBits}
 use borrow.Author.Tests.{ne-eqb}
 use borrow.Author.Needs.{needs}
-use Rattle.replay_answers.proofs.text.float.Statement.{statement}
-use Rattle.replay_answers.proofs.text.float.Tie as tie
+use Rattle.replay_answers.proofs.recorded.float.Statement.{statement}
+use Rattle.replay_answers.proofs.recorded.float.Tie as tie
 
 -- a pattern whose exponent is not the highest is no NaN's
 no-nan-field : (x t : ℕ) → (x ≡ 2047 → ⊥) → T (not (eqb x 2047 && not (eqb t 0)))

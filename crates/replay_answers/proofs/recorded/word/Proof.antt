@@ -1,8 +1,8 @@
 -- `word` is safe and ends: sixteen digits are read where they stand, and the sum fits. Assumes nothing.
 use Prim.Native.Nat.{_≤_, _-_}
 use borrow.Author.Needs.{needs}
-use Rattle.replay_answers.proofs.text.word.Statement.{statement}
-use Rattle.replay_answers.proofs.text.word.Tie as tie
+use Rattle.replay_answers.proofs.recorded.word.Statement.{statement}
+use Rattle.replay_answers.proofs.recorded.word.Tie as tie
 
 abbrev Inv-loop : tie.InvT-loop
 Inv-loop text at v₀ k₀ v k = k ≤ 16

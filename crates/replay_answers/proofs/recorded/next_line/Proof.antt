@@ -2,8 +2,8 @@
 use Prim.Native.Nat.{_≤_, _-_}
 use lib.ListN.{length}
 use borrow.Author.Needs.{needs}
-use Rattle.replay_answers.proofs.text.next_line.Statement.{statement}
-use Rattle.replay_answers.proofs.text.next_line.Tie as tie
+use Rattle.replay_answers.proofs.recorded.next_line.Statement.{statement}
+use Rattle.replay_answers.proofs.recorded.next_line.Tie as tie
 
 abbrev Inv-loop : tie.InvT-loop
 Inv-loop text at i₀ i = at ≤ i

@@ -1,8 +1,8 @@
 -- `pattern` is safe and ends: what equals itself is no NaN. Assumes nothing.
 use Rattle.root.proofs.Floats.{not-nan}
 use borrow.Author.Needs.{needs}
-use Rattle.replay_answers.proofs.text.pattern.Statement.{statement}
-use Rattle.replay_answers.proofs.text.pattern.Tie as tie
+use Rattle.replay_answers.proofs.recorded.pattern.Statement.{statement}
+use Rattle.replay_answers.proofs.recorded.pattern.Tie as tie
 
 returns : tie.Need-returns
 returns c = search needs
