@@ -198,5 +198,5 @@ module _ (x : Float) (f : T (fits binary64 x)) where
   pub root-none : (toBits binary64 x ≡ sign → ⊥) → (toBits binary64 x ≡ infinity → ⊥) → infinity ≤ toBits binary64 x → Root x nan
   root-none n m h = subst (λ (y : Float). Root y nan) (ofBits-toBits binary64 x f) (no-root (toBits binary64 x) (omega (arith, m)) n (toBits-lt binary64 x f))
 
-pub result-no-nan : (b c : ℕ) → RootBits b c → T (not (nanBits binary64 c))
-result-no-nan b c t = subst (λ (q : Bool). T (not q)) (sym (nanBits-is binary64 c)) (no-nan (ofBits binary64 c) false (val c) (2 ^ 1074) (bits-value c (omega (arith, t .high))))
+pub pattern-no-nan : (b : ℕ) → b < infinity → T (not (nanBits binary64 b))
+pattern-no-nan b h = subst (λ (q : Bool). T (not q)) (sym (nanBits-is binary64 b)) (no-nan (ofBits binary64 b) false (val b) (2 ^ 1074) (bits-value b h))

@@ -1,4 +1,4 @@
-mod Digits
+mod Squares
 mod Scaling
 mod Patterns
 mod Halfway

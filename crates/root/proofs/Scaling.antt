@@ -1,63 +1,22 @@
--- The steps of `scale`: the digits m and the exponent k of a pattern; m moved up to 53 digits, which a shift by at most 52
--- places does exactly; and a power of two that is a square, an odd one giving a factor of two to the digits. Assumes
--- nothing.
+-- The steps of `scale`: the digits of a pattern, 53 of them, and the exponent of what is left; those of a subnormal are
+-- moved up, which a shift by at most 52 places does exactly; and a power of two that is a square, an odd one giving a factor
+-- of two to the digits. Assumes nothing.
 use mathlib.Core.Path.{_≡_, sym, ap, _∙_, subst}
 use Prim.Native.Nat.{ℕ, suc, _+_, _-_, _*_, _/_, _%_, _^_, _≤_, _<_}
-use native.Mathlib.Nat.{mul-le-mul-right, mul-assoc, lt-of-not-le, not-le-of-lt, lt-of-lt-of-le, le-trans, pow-succ'}
+use native.Mathlib.Nat.{mul-le-mul-right, mul-assoc, lt-of-not-le, not-le-of-lt, lt-of-lt-of-le, le-trans, mul-one, pow-succ'}
 use native.Mathlib.Omega.{arith}
 use lib.Pow.{pow-add, pow-mono, shl-lt, shl-exact}
 use lib.Count.{leadingZeros, leading-top}
 use Rattle.root.specs.Steps.{lead, infinity, val, Splits}
 use Rattle.root.proofs.Patterns.{val-low, val-high}
 
-pub record Opened (b m k : ℕ) : Type 0 where
-  pub some : 0 < m
-  pub short : m < 2 * lead
-  pub small : k < 2046
-  pub equal : val b ≡ m * 2 ^ k
-
-pub opened-low : (b : ℕ) → 0 < b → b < lead → Opened b (b % lead) 0
-opened-low b h k = record {
-  some = omega arith;
-  short = omega arith;
-  small = omega arith;
-  equal = let e : b % lead ≡ b = omega arith in val-low b k ∙ rw e (omega arith);
-}
-
-pub opened-high : (b : ℕ) → lead ≤ b → b < infinity → Opened b (b % lead + lead) (b / lead - 1)
-opened-high b h k = record {
-  some = omega arith;
-  short = omega arith;
-  small = omega arith;
-  equal = val-high b h ∙ omega arith;
-}
-
--- m moved up by z places
-pub record Full (m z : ℕ) : Type 0 where
-  pub places : z ≤ 52
-  pub exact : (m * 2 ^ z) % 2 ^ 64 ≡ m * 2 ^ z
-  pub low : lead ≤ m * 2 ^ z
-  pub high : m * 2 ^ z < 2 * lead
-
-below-53 : (j m : ℕ) → 2 ^ j ≤ m → m < 2 * lead → j < 53
-below-53 j m h k = lt-of-not-le (λ (g : 53 ≤ j). not-le-of-lt k (le-trans (pow-mono g) h))
-
-pub full : (m : ℕ) → 0 < m → m < 2 * lead → (11 ≤ leadingZeros 64 m) × Full m (leadingZeros 64 m - 11)
-full m p s =
-    let t = leading-top 64 m p (lt-of-lt-of-le s (omega arith)) in
-    let j = t .0 in
-    let l = below-53 j m (t .2) s in
-    let z = leadingZeros 64 m - 11 in
-    let e : j + z ≡ 52 = omega (arith, t .1) in
-    let e1 : suc j + z ≡ 53 = omega arith in (
-      omega (arith, t .1),
-      record {
-        places = omega arith;
-        exact = shl-exact {a = m} (suc j) z 64 (t .3) (omega arith);
-        low = subst (λ (x : ℕ). 2 ^ x ≤ m * 2 ^ z) e (rw (pow-add 2 j z) (mul-le-mul-right (2 ^ z) (t .2)));
-        high = subst (λ (x : ℕ). m * 2 ^ z < 2 ^ x) e1 (shl-lt (suc j) z (t .3));
-      },
-    )
+-- 2 ^ 2148 times the float of b, by its 53 digits d and an exponent e
+pub record Full (b d e : ℕ) : Type 0 where
+  pub equal : val b * 2 ^ 1074 ≡ d * lead * 2 ^ e
+  pub low : lead ≤ d
+  pub high : d < 2 * lead
+  pub e-low : 2 ≤ e
+  pub e-high : e < 3100
 
 -- what a product of powers of two comes to, by the exponents
 powers : (n z e k : ℕ) → z + 52 + e ≡ k + 1074 → n * 2 ^ k * 2 ^ 1074 ≡ n * 2 ^ z * lead * 2 ^ e
@@ -75,27 +34,69 @@ odd-power e h =
     let d : e ≡ suc (e / 2 + e / 2) = omega arith in
     ap (λ (x : ℕ). 2 ^ x) d ∙ pow-succ' 2 (e / 2 + e / 2) ∙ ap (λ (x : ℕ). 2 * x) (pow-add 2 (e / 2) (e / 2))
 
--- the exponent of what is left
-module _ (b m k z : ℕ) (o : Opened b m k) (f : Full m z) where
-  scaled : val b * 2 ^ 1074 ≡ m * 2 ^ z * lead * 2 ^ (k + 1022 - z)
-  scaled = ap (λ (x : ℕ). x * 2 ^ 1074) (o .equal) ∙ powers m z (k + 1022 - z) k (omega (arith, f .places))
+-- a normal float has 53 digits as it stands
+pub full-high : (b : ℕ) → lead ≤ b → b < infinity → Full b (b % lead + lead) (b / lead + 1021)
+full-high b h k = record {
+  equal = ap (λ (x : ℕ). x * 2 ^ 1074) (val-high b h) ∙ powers (lead + b % lead) 0 (b / lead + 1021) (b / lead - 1) (omega arith) ∙ omega arith;
+  low = omega arith;
+  high = omega arith;
+  e-low = omega arith;
+  e-high = omega arith;
+}
 
-  pub splits-even : ((k + 1022 - z) % 2 ≡ 1 → ⊥) → Splits b (m * 2 ^ z) ((k + 1022 - z) / 2)
+-- ---- a subnormal's digits, moved up by z places
+abbrev pub places : ℕ → ℕ
+places b = leadingZeros 64 b - 11
+
+pub record Moved (b : ℕ) : Type 0 where
+  pub eleven : 11 ≤ leadingZeros 64 b
+  pub short : places b ≤ 52
+  pub full : Full b (b * 2 ^ places b % 2 ^ 64) (1022 - places b)
+
+below-52 : (j m : ℕ) → 2 ^ j ≤ m → m < lead → j < 52
+below-52 j m h k = lt-of-not-le (λ (g : 52 ≤ j). not-le-of-lt k (le-trans (pow-mono g) h))
+
+pub moved : (b : ℕ) → 0 < b → b < lead → Moved b
+moved b p s =
+    let t = leading-top 64 b p (lt-of-lt-of-le s (omega arith)) in
+    let j = t .0 in
+    let l = below-52 j b (t .2) s in
+    let z = places b in
+    let e : j + z ≡ 52 = omega (arith, t .1) in
+    let e1 : suc j + z ≡ 53 = omega arith in
+    let x = shl-exact {a = b} (suc j) z 64 (t .3) (omega arith) in
+    let low = subst (λ (y : ℕ). 2 ^ y ≤ b * 2 ^ z) e (rw (pow-add 2 j z) (mul-le-mul-right (2 ^ z) (t .2))) in
+    let high = subst (λ (y : ℕ). b * 2 ^ z < 2 ^ y) e1 (shl-lt (suc j) z (t .3)) in
+    record {
+      eleven = omega (arith, t .1);
+      short = omega arith;
+      full = record {
+        equal = ap (λ (y : ℕ). y * 2 ^ 1074) (val-low b s ∙ sym (mul-one b)) ∙ powers b z (1022 - z) 0 (omega arith) ∙ ap (λ (y : ℕ). y * lead * 2 ^ (1022 - z)) (sym x);
+        low = rw x low;
+        high = rw x high;
+        e-low = omega arith;
+        e-high = omega arith;
+      };
+    }
+
+-- ---- the exponent, halved
+module _ (b d e : ℕ) (f : Full b d e) where
+  pub splits-even : (e % 2 ≡ 1 → ⊥) → Splits b d (e / 2)
   splits-even h = record {
-    equal = scaled ∙ ap (λ (x : ℕ). m * 2 ^ z * lead * x) (even-power (k + 1022 - z) h);
+    equal = f .equal ∙ ap (λ (x : ℕ). d * lead * x) (even-power e h);
     low = f .low;
     high = omega (arith, f .high);
-    h-low = omega (arith, f .places);
-    h-high = omega (arith, o .small);
+    h-low = omega (arith, f .e-low);
+    h-high = omega (arith, f .e-high);
   }
 
-  pub splits-odd : (k + 1022 - z) % 2 ≡ 1 → Splits b (m * 2 ^ z * 2) ((k + 1022 - z) / 2)
+  pub splits-odd : e % 2 ≡ 1 → Splits b (d * 2) (e / 2)
   splits-odd h = record {
-    equal = scaled ∙ ap (λ (x : ℕ). m * 2 ^ z * lead * x) (odd-power (k + 1022 - z) h) ∙ twice (m * 2 ^ z) (2 ^ ((k + 1022 - z) / 2) * 2 ^ ((k + 1022 - z) / 2));
+    equal = f .equal ∙ ap (λ (x : ℕ). d * lead * x) (odd-power e h) ∙ twice d (2 ^ (e / 2) * 2 ^ (e / 2));
     low = omega (arith, f .low);
     high = omega (arith, f .high);
-    h-low = omega (arith, f .places);
-    h-high = omega (arith, o .small);
+    h-low = omega (arith, f .e-low);
+    h-high = omega (arith, f .e-high);
   }
     where
       twice : (n p : ℕ) → n * lead * (2 * p) ≡ n * 2 * lead * p

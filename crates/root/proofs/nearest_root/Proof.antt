@@ -1,66 +1,73 @@
--- `root::nearest_root` meets its contract. The loop's invariant is `Taken` of `Digits.antt`; the measure is the bit. Assumes nothing.
-use native.Mathlib.Nat.{le-trans}
+-- `root::nearest_root` meets its contract. The first loop leaves no s that is too small, the second none that is too large:
+-- `Squares.antt`. How good the guess is plays no part. Assumes nothing.
+use Prim.Native.Nat.{_-_, _*_, _<_}
 use native.Mathlib.Omega.{arith}
 use borrow.Author.Needs.{needs}
-use Rattle.root.proofs.Digits.{Taken, taken-start, taken-round, bit-product-fits, bit-product-le, rounds-down, rounds-up}
+use Rattle.root.specs.Steps.{lead}
+use Rattle.root.proofs.Squares.{climbs, Reached, reached, rounds}
 use Rattle.root.proofs.nearest_root.Statement.{statement}
 use Rattle.root.proofs.nearest_root.Tie as tie
 
 abbrev Inv-loop : tie.InvT-loop
-Inv-loop a twice₀ rest₀ bit₀ twice rest bit = Taken a twice rest bit
+Inv-loop a s₀ s = s < 4 * lead
 
 abbrev μ-loop : tie.MeasureT-loop
-μ-loop a twice₀ rest₀ bit₀ twice rest bit = bit
+μ-loop a s₀ s = 4 * lead - s
 
-mul-twice : tie.Need-mul-twice Inv-loop μ-loop
-mul-twice c = search needs
+abbrev Inv-loop2 : tie.InvT-loop2
+Inv-loop2 a s₀ s = Reached a s
 
-sub-rest : tie.Need-sub-rest Inv-loop μ-loop
-sub-rest c = search needs
+abbrev μ-loop2 : tie.MeasureT-loop2
+μ-loop2 a s₀ s = s
 
-loop-holds : tie.Need-loop-holds Inv-loop μ-loop
-loop-holds c = taken-start (c .args .a) (c .pre .0) (c .pre .1)
+guess-requires : tie.Need-guess-requires Inv-loop μ-loop Inv-loop2 μ-loop2
+guess-requires c κs = search needs
 
-add-cost : tie.Need-add-cost Inv-loop μ-loop
-add-cost c = search needs
+loop-holds : tie.Need-loop-holds Inv-loop μ-loop Inv-loop2 μ-loop2
+loop-holds c = search needs
 
-mul-wrapping-sub-u64 : tie.Need-mul-wrapping-sub-u64 Inv-loop μ-loop
-mul-wrapping-sub-u64 c = search needs
+reach-requires : tie.Need-reach-requires Inv-loop μ-loop Inv-loop2 μ-loop2
+reach-requires c κs = search needs
 
-wrapping-sub-u64-requires : tie.Need-wrapping-sub-u64-requires Inv-loop μ-loop
-wrapping-sub-u64-requires c κs = search needs
+add-s : tie.Need-add-s Inv-loop μ-loop Inv-loop2 μ-loop2
+add-s c = search needs
 
-mul-wrapping-add-u64 : tie.Need-mul-wrapping-add-u64 Inv-loop μ-loop
-mul-wrapping-add-u64 c = record { fits = bit-product-fits _ _ (omega arith) (omega arith) }
-
-wrapping-add-u64-requires : tie.Need-wrapping-add-u64-requires Inv-loop μ-loop
-wrapping-add-u64-requires c κs = search needs
-
-add-twice : tie.Need-add-twice Inv-loop μ-loop
-add-twice c = search needs
-
-mul-twice-2 : tie.Need-mul-twice-2 Inv-loop μ-loop
-mul-twice-2 c = record { fits = bit-product-fits _ _ (omega arith) (omega arith) }
-
-sub-twice : tie.Need-sub-twice Inv-loop μ-loop
-sub-twice c = le-trans (bit-product-le _ _ (omega arith)) (omega arith)
-
-loop-less : tie.Need-loop-less Inv-loop μ-loop
+loop-less : tie.Need-loop-less Inv-loop μ-loop Inv-loop2 μ-loop2
 loop-less c = search needs
 
-loop-again : tie.Need-loop-again Inv-loop μ-loop
+loop-again : tie.Need-loop-again Inv-loop μ-loop Inv-loop2 μ-loop2
 loop-again c =
-    let d = c .before in
-    rw (c .wrapping-add-u64 .ensures) (taken-round (d .before .before .loop .inv) (d .wrapping-sub-u64 .result) (omega arith) (d .wrapping-sub-u64 .ensures) (d .before .loop-test .taken))
+    let d = c .before .before in
+    omega (arith, climbs (d .before .before .args .a) (d .loop .s) (c .before .reach .result) (d .before .before .pre .1) (c .before .reach .ensures) (omega arith))
 
-add-result : tie.Need-add-result Inv-loop μ-loop
-add-result c = search needs
+loop2-holds : tie.Need-loop2-holds Inv-loop μ-loop Inv-loop2 μ-loop2
+loop2-holds c =
+    let d = c .before .before in
+    reached (d .before .before .args .a) (d .loop .s) (c .before .reach .result) (d .before .before .pre .0) (d .loop .inv) (c .before .reach .ensures) (omega arith)
 
-returns : tie.Need-returns Inv-loop μ-loop
-returns c = let s = c .before .before in rounds-up (s .loop .inv) (c .before .loop-test .left) (s .before .pre .1) (c .if1 .taken)
+sub-reach : tie.Need-sub-reach Inv-loop μ-loop Inv-loop2 μ-loop2
+sub-reach c = search needs
 
-returns-2 : tie.Need-returns-2 Inv-loop μ-loop
-returns-2 c = rounds-down (c .before .before .loop .inv) (c .before .loop-test .left) (c .if1 .left)
+reach-requires-2 : tie.Need-reach-requires-2 Inv-loop μ-loop Inv-loop2 μ-loop2
+reach-requires-2 c κs = search needs
+
+sub-s : tie.Need-sub-s Inv-loop μ-loop Inv-loop2 μ-loop2
+sub-s c = search needs
+
+loop2-less : tie.Need-loop2-less Inv-loop μ-loop Inv-loop2 μ-loop2
+loop2-less c = search needs
+
+loop2-again : tie.Need-loop2-again Inv-loop μ-loop Inv-loop2 μ-loop2
+loop2-again c =
+    let d = c .before .before in
+    let t = d .before .before .before .before .before in
+    reached (t .args .a) (d .loop2 .s - 1) (c .before .reach2 .result) (t .pre .0) (omega (arith, d .loop2 .inv .high)) (c .before .reach2 .ensures) (omega arith)
+
+returns : tie.Need-returns Inv-loop μ-loop Inv-loop2 μ-loop2
+returns c =
+    let d = c .before .before in
+    let t = d .before .before .before .before .before in
+    rounds (t .args .a) (d .loop2 .s) (c .before .reach2 .result) (t .pre .1) (d .loop2 .inv) (c .before .reach2 .ensures) (omega arith)
 
 pub nearest-root-spec : {M : Type 1} → statement M
 nearest-root-spec =
@@ -68,19 +75,18 @@ nearest-root-spec =
     (tie.spec
     Inv-loop
     μ-loop
-    mul-twice
-    sub-rest
+    Inv-loop2
+    μ-loop2
+    guess-requires
     loop-holds
-    add-cost
-    mul-wrapping-sub-u64
-    wrapping-sub-u64-requires
-    mul-wrapping-add-u64
-    wrapping-add-u64-requires
-    add-twice
-    mul-twice-2
-    sub-twice
+    reach-requires
+    add-s
     loop-less
     loop-again
-    add-result
-    returns
-    returns-2)
+    loop2-holds
+    sub-reach
+    reach-requires-2
+    sub-s
+    loop2-less
+    loop2-again
+    returns)

@@ -1,9 +1,10 @@
 -- `root::square_root` meets its contract: a NaN, the two zeros and the infinity by computation, and the rest by the pattern (`Floats.antt`). Assumes nothing.
 use mathlib.Core.Path.{sym, subst}
 use lib.Dec.{T}
-use lib.Ieee.{Float, binary64, fits, toBits}
+use lib.Ieee.{Float, binary64, fits}
+use native.Mathlib.Omega.{arith}
 use Rattle.root.specs.Root.{Root}
-use Rattle.root.proofs.Floats.{over-zero, root-of-nan, not-nan, root-zero, root-minus-zero, root-infinity, root-positive, root-none, result-no-nan}
+use Rattle.root.proofs.Floats.{over-zero, root-of-nan, not-nan, root-zero, root-minus-zero, root-infinity, root-positive, root-none, pattern-no-nan}
 use borrow.Author.Needs.{needs}
 use Rattle.root.proofs.square_root.Statement.{statement}
 use Rattle.root.proofs.square_root.Tie as tie
@@ -31,7 +32,7 @@ root-bits-requires : tie.Need-root-bits-requires
 root-bits-requires c κs = search needs
 
 float-from-bits-result : tie.Need-float-from-bits-result
-float-from-bits-result c = result-no-nan (toBits binary64 (c .before .before .before .before .before .before .args .x)) (c .root-bits .result) (c .root-bits .ensures)
+float-from-bits-result c = pattern-no-nan (c .root-bits .result) (omega (arith, c .root-bits .ensures .high))
 
 returns-5 : tie.Need-returns-5
 returns-5 c =
