@@ -15,6 +15,7 @@
 #include <cstdlib>
 #include <cstring>
 #include <functional>
+#include <memory>
 #include <nanoflann.hpp>
 #include <string>
 #include <time.h>
@@ -121,7 +122,7 @@ typedef nanoflann::KDTreeSingleIndexAdaptor<nanoflann::L2_Simple_Adaptor<double,
 
 /* ---- one line of the table */
 
-int turns = 5;
+bool quick = false;
 bool odd_sums = false;
 
 struct Line {
@@ -163,6 +164,12 @@ double once(const Side &s, double *sum)
     return t;
 }
 
+/* More turns where one is short. */
+int turns(size_t n)
+{
+    return quick ? 3 : n > 500000 ? 5 : n > 50000 ? 7 : 15;
+}
+
 Line best(const std::string &what, const Side &ours, const Side &geo, const Side &nano, int how_often)
 {
     Line l = {what, 1e99, geo.work ? 1e99 : -1, nano.work ? 1e99 : -1};
@@ -200,11 +207,10 @@ Map uniform(size_t n, size_t places)
     return m;
 }
 
-/* Dies row by row, 1000 by 700; the camera is off by up to 300 either way. */
-Map die_grid(size_t n, size_t places)
+/* Dies row by row, 1000 by 700, `side` in a row; the camera is off by up to 300 either way. */
+Map die_grid(size_t n, size_t places, size_t side)
 {
     Map m = {"die grid", {}, {}, std::sqrt(10 * 700e3 / M_PI), 1250};
-    size_t side = std::ceil(std::sqrt(double(n)));
     for (size_t i = 0; i < n; i++)
         m.points.insert(m.points.end(), {1000.0 * (i % side), 700.0 * (i / side)});
     for (size_t i = 0; i < places; i++) {
@@ -216,31 +222,38 @@ Map die_grid(size_t n, size_t places)
 
 /* ---- the rows of a map */
 
-void build_row(const std::string &what, const std::vector<double> &points, int how_often)
+typedef std::function<std::vector<double>(size_t)> Maps; /* the k-th of several maps of one sort */
+
+/* A turn builds each of `copies` maps once: a single small build is too short for the clock. The time is that of one. */
+void build_row(const std::string &what, const Maps &maps, size_t copies, int how_often)
 {
-    size_t n = points.size() / 2;
-    Ours mine(points);
-    Cloud cloud = {points};
-    void *theirs = nullptr;
-    Nano *nano = nullptr;
-    auto ours = [&] { mine.build(); return double(n); };
-    auto geo = [&] { theirs = geo_build(theirs, LEAF); return double(n); };
-    auto flann = [&] { nano = new Nano(2, cloud, nanoflann::KDTreeSingleIndexAdaptorParams(10)); return double(n); };
-    print(best(what, {ours, nullptr, nullptr}, {geo, [&] { theirs = geo_points(points.data(), n); }, [&] { geo_free(theirs); }}, {flann, nullptr, [&] { delete nano; }}, how_often), 1, "ms");
+    std::vector<Ours> mine;
+    for (size_t k = 0; k < copies; k++)
+        mine.emplace_back(maps(k));
+    std::vector<void *> theirs(copies);
+    std::vector<Cloud> clouds;
+    for (const Ours &m : mine)
+        clouds.push_back({m.points});
+    std::vector<std::unique_ptr<Nano>> nanos(copies);
+    auto ours = [&] { for (Ours &m : mine) m.build(); return double(copies); };
+    auto geo = [&] { for (void *&t : theirs) t = geo_build(t, LEAF); return double(copies); };
+    auto flann = [&] { for (size_t k = 0; k < copies; k++) nanos[k].reset(new Nano(2, clouds[k], nanoflann::KDTreeSingleIndexAdaptorParams(10))); return double(copies); };
+    auto lend = [&] { for (size_t k = 0; k < copies; k++) theirs[k] = geo_points(mine[k].points.data(), mine[k].points.size() / 2); };
+    auto give_back = [&] { for (void *t : theirs) geo_free(t); };
+    auto drop = [&] { for (auto &n : nanos) n.reset(); };
+    print(best(what, {ours, nullptr, nullptr}, {geo, lend, give_back}, {flann, nullptr, drop}, how_often), copies, "ms");
 }
 
 void query_rows(const Map &m)
 {
     size_t n = m.points.size() / 2, places = m.places.size() / 2;
     std::string tail = ", n = " + std::to_string(n) + ", " + m.name;
-    build_row("build" + tail, m.points, n > 500000 ? 3 : turns);
-
     Ours mine(m.points);
     mine.build();
     void *theirs = geo_build(geo_points(m.points.data(), n), LEAF);
     Cloud cloud = {m.points};
     Nano nano(2, cloud, nanoflann::KDTreeSingleIndexAdaptorParams(10));
-    print(best("check" + tail, {[&] { mine.check(); return 0.0; }, nullptr, nullptr}, {}, {}, turns), 1, "ms");
+    print(best("check" + tail, {[&] { mine.check(); return 0.0; }, nullptr, nullptr}, {}, {}, turns(n)), 1, "ms");
 
     auto over = [&](std::function<double(double, double)> ask) {
         return Side{[&m, places, ask] {
@@ -252,16 +265,16 @@ void query_rows(const Map &m)
     };
     print(best("nearest" + tail, over([&](double x, double y) { return mine.nearest(x, y); }),
                over([&](double x, double y) { uint32_t i; double d = 0; geo_nearest(theirs, x, y, &i, &d); return d; }),
-               over([&](double x, double y) { double q[2] = {x, y}, d2 = 0; uint32_t i; nano.knnSearch(q, 1, &i, &d2); return std::sqrt(d2); }), turns), places, "ns");
+               over([&](double x, double y) { double q[2] = {x, y}, d2 = 0; uint32_t i; nano.knnSearch(q, 1, &i, &d2); return std::sqrt(d2); }), turns(n)), places, "ns");
     print(best("k = 8" + tail, over([&](double x, double y) { return mine.k_nearest(x, y); }),
                over([&](double x, double y) { double d = 0; geo_k_nearest(theirs, x, y, K, &d); return d; }),
-               over([&](double x, double y) { double q[2] = {x, y}, d2[K]; uint32_t i[K]; size_t c = nano.knnSearch(q, K, i, d2); for (size_t j = 0; j < c; j++) d2[j] = std::sqrt(d2[j]); return d2[c - 1]; }), turns), places, "ns");
+               over([&](double x, double y) { double q[2] = {x, y}, d2[K]; uint32_t i[K]; size_t c = nano.knnSearch(q, K, i, d2); for (size_t j = 0; j < c; j++) d2[j] = std::sqrt(d2[j]); return d2[c - 1]; }), turns(n)), places, "ns");
     std::vector<std::pair<uint32_t, double>> hits;
     nanoflann::SearchParams unsorted(32, 0, false);
     auto flann_radius = [&](double x, double y) { double q[2] = {x, y}; size_t c = nano.radiusSearch(q, m.radius * m.radius, hits, unsorted); for (auto &h : hits) h.second = std::sqrt(h.second); return double(c); };
     print(best("radius, about 10 hits" + tail, over([&](double x, double y) { return mine.radius(x, y, m.radius); }),
-               over([&](double x, double y) { return double(geo_radius(theirs, x, y, m.radius)); }), over(flann_radius), turns), places, "ns");
-    print(best("radius, indices alone" + tail, over([&](double x, double y) { return mine.radius_indices(x, y, m.radius); }), {}, {}, turns), places, "ns");
+               over([&](double x, double y) { return double(geo_radius(theirs, x, y, m.radius)); }), over(flann_radius), turns(n)), places, "ns");
+    print(best("radius, indices alone" + tail, over([&](double x, double y) { return mine.radius_indices(x, y, m.radius); }), {}, {}, turns(n)), places, "ns");
     geo_free(theirs);
 }
 
@@ -301,7 +314,7 @@ void label_row(const Map &m, const std::vector<const char *> &commands)
     Side geo; /* with a plain scan in place of its R-tree, so only where that can be waited for */
     if (n <= 1000)
         geo = {[&] { return double(geo_label(theirs, m.epsilon, 5)); }, [&] { theirs = geo_points(m.points.data(), n); }, nullptr};
-    Line l = best("", {[&] { return mine.label(m.epsilon, 5); }, nullptr, nullptr}, geo, {}, n > 500000 ? 1 : turns);
+    Line l = best("", {[&] { return mine.label(m.epsilon, 5); }, nullptr, nullptr}, geo, {}, n > 500000 ? 1 : turns(n));
     printf("| labels, n = %zu, %s | ms | %.4g |", n, m.name.c_str(), l.ours * 1e3);
     l.geo < 0 ? printf(" - |") : printf(" %.4g |", l.geo * 1e3);
     for (const char *c : commands) {
@@ -335,7 +348,9 @@ std::vector<double> against_median_of_three(size_t n)
     return a;
 }
 
-void orders(size_t n)
+/* Uniform, the die grid, and where asked for the orders in which a careless selection goes quadratic; at 1,000 points a
+ * hundred maps a turn. */
+void build_rows(size_t n, bool orders)
 {
     std::vector<double> up(n), down(n), pipe(n), few(n), random(n);
     for (size_t i = 0; i < n; i++) {
@@ -345,32 +360,41 @@ void orders(size_t n)
         few[i] = size_t(unit() * 4);
         random[i] = unit() * n;
     }
-    std::string tail = ", n = " + std::to_string(n);
-    build_row("build: random" + tail, diagonal(random), 3);
-    build_row("build: sorted" + tail, diagonal(up), 3);
-    build_row("build: reversed" + tail, diagonal(down), 3);
-    build_row("build: all equal" + tail, diagonal(std::vector<double>(n, 7)), 3);
-    build_row("build: organ pipe" + tail, diagonal(pipe), 3);
-    build_row("build: four distinct" + tail, diagonal(few), 3);
-    build_row("build: against median of three" + tail, diagonal(against_median_of_three(n)), 3);
+    size_t copies = n > 10000 ? 1 : 100;
+    auto row = [&](const std::string &name, const Maps &maps) { build_row("build, n = " + std::to_string(n) + ", " + name, maps, copies, turns(n)); };
+    auto same = [&](const std::string &name, const std::vector<double> &xs) { row(name, [&](size_t) { return diagonal(xs); }); };
+    row("uniform", [&](size_t) { return uniform(n, 0).points; });
+    row("die grid", [&](size_t k) { return die_grid(n, 0, std::ceil(std::sqrt(double(n))) + k % 9).points; });
+    if (!orders)
+        return;
+    same("random order", random);
+    same("sorted", up);
+    same("reversed", down);
+    same("all equal", std::vector<double>(n, 7));
+    same("organ pipe", pipe);
+    same("four distinct", few);
+    same("against median of three", against_median_of_three(n));
 }
 
 } // namespace
 
 int main(int argc, char **argv)
 {
-    bool quick = argc > 1 && !strcmp(argv[1], "quick");
+    quick = argc > 1 && !strcmp(argv[1], "quick");
     std::vector<const char *> commands(argv + 1 + quick, argv + argc);
     std::vector<size_t> sizes = quick ? std::vector<size_t>{1000, 20000} : std::vector<size_t>{1000, 100000, 1000000};
     size_t places = quick ? 20000 : 100000;
-    turns = quick ? 2 : 5;
+    auto grid = [](size_t n, size_t places) { return die_grid(n, places, std::ceil(std::sqrt(double(n)))); };
 
     printf("| | unit | this library | original | nanoflann | original / this | nanoflann / this |\n|---|---|---|---|---|---|---|\n");
+    for (size_t n : sizes)
+        build_rows(n, n < 1000000);
+    if (!quick)
+        build_rows(1048576, true);
     for (size_t n : sizes) {
         query_rows(uniform(n, places));
-        query_rows(die_grid(n, places));
+        query_rows(grid(n, places));
     }
-    orders(quick ? 65536 : 1048576);
 
     printf("\n| | unit | this library | original, a scan for its R-tree |");
     for (const char *c : commands)
@@ -381,7 +405,7 @@ int main(int argc, char **argv)
     printf("\n");
     for (size_t n : sizes) {
         label_row(uniform(n, 0), commands);
-        label_row(die_grid(n, 0), commands);
+        label_row(grid(n, 0), commands);
     }
     printf("\n%s\n", odd_sums ? "The sides' sums differ somewhere: see standard error." : "The sides' answers agree in their sums.");
 }
