@@ -25,7 +25,7 @@ use Rattle.build.proofs.Rows.{six}
 use Rattle.build.specs.Built.{Tight, Box}
 use Rattle.build.specs.Steps.{Number, low-of, high-of, Ready}
 
-in-one : (w v : ℕ) → w ∈ (v ∷ []) → w ≡ v
+pub in-one : (w v : ℕ) → w ∈ (v ∷ []) → w ≡ v
 in-one w v h = go (place w (v ∷ []) h)
   where
     go : Place w (v ∷ []) → w ≡ v
@@ -148,11 +148,11 @@ ready-index points part r k h = r .within (getD part k 0) (has-at part k h)
 pub coord-x : (points : List Float) (v : ℕ) → getD points (2 * v) nan ≡ coord points 0 v
 coord-x points v = ap (λ (j : ℕ). getD points j nan) (omega arith)
 
-first-only : (part : List ℕ) → 0 < length part → take 1 part ≡ getD part 0 0 ∷ []
+pub first-only : (part : List ℕ) → 0 < length part → take 1 part ≡ getD part 0 0 ∷ []
 first-only [] h = absurd (not-suc-le-zero h)
 first-only (x ∷ xs) h = refl
 
-fit-front : (points : List Float) (axis : ℕ) (part : List ℕ) (k : ℕ) → Ready points part → axis < 2 → Fit points axis (take k part)
+pub fit-front : (points : List Float) (axis : ℕ) (part : List ℕ) (k : ℕ) → Ready points part → axis < 2 → Fit points axis (take k part)
 fit-front points axis part k r h = record { all-finite = r .all-finite; axes = h; within = λ v g. r .within v (in-take v k part g) }
 
 module _ (points : List Float) (part : List ℕ) (R : Ready points part) where

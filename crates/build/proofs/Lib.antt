@@ -2,6 +2,7 @@
 pub mod Weave
 pub mod Rows
 pub mod Boxes
+pub mod Plain
 pub mod Parts
 pub mod Step
 pub mod Sum

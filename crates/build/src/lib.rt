@@ -14,10 +14,11 @@ ghost use mathlib.Core.Logic.{_⊎_};
 ghost use mathlib.Core.List.{_∷_, _++_};
 ghost use Prim.Native.Nat.{_+_, _-_, _*_, _/_, _^_, _<_, _≤_};
 ghost use lib.ListN.{length, drop};
+ghost use Rattle.distance.specs.Distance.{larger};
 ghost use Rattle.tree.specs.Accepted.{tree};
 ghost use Rattle.build.specs.Built.{Box, axis-of, Each, Built, needed};
 ghost use Rattle.build.specs.Outcome.{told, Given, Due, Outcome};
-ghost use Rattle.build.specs.Steps.{Number, low-of, high-of, own-of, Ready, Room, Raised};
+ghost use Rattle.build.specs.Steps.{Number, low-of, high-of, smaller, PlainBox, on-zero, own-of, Ready, Room, Raised};
 
 // The least and the greatest of some coordinates, by totalOrder.
 pub struct Span {
@@ -72,8 +73,8 @@ fn widen(s: Span, x: f64) -> Span
     Span { lo, hi }
 }
 
-// The tight box of a part, and the mean of its points.
-fn box_of(points: &[f64], part: &[u32]) -> Bounds
+// The tight box of a part, by totalOrder throughout, and the mean of its points.
+fn exact_box(points: &[f64], part: &[u32]) -> Bounds
     requires { ⌜ Ready (now points) (now part) ⌝ }
     requires { ⌜ length (now part) < 2 ^ 32 ⌝ }
     ensures { λ r. ⌜ Box (now (points .entry)) (now (part .entry)) (own-of r) ⌝ }
@@ -105,6 +106,79 @@ fn box_of(points: &[f64], part: &[u32]) -> Bounds
         min_y: ys.lo,
         max_y: ys.hi,
     }
+}
+
+// The lesser and the greater of two by the order of numbers alone: each one instruction, without a jump.
+fn smaller(a: f64, b: f64) -> f64
+    ensures { λ r. ⌜ r ≡ smaller a b ⌝ }
+{
+    if b < a { b } else { a }
+}
+
+fn larger(a: f64, b: f64) -> f64
+    ensures { λ r. ⌜ r ≡ larger a b ⌝ }
+{
+    if a < b { b } else { a }
+}
+
+// The box of a part by the order of numbers, in which the two zeros are level, and the mean of its points.
+fn plain_box(points: &[f64], part: &[u32]) -> Bounds
+    requires { ⌜ Ready (now points) (now part) ⌝ }
+    requires { ⌜ length (now part) < 2 ^ 32 ⌝ }
+    ensures { λ r. ⌜ PlainBox (now (points .entry)) (now (part .entry)) r ⌝ }
+{
+    let f = 2 * (part[0] as usize);
+    let fx = points[f];
+    let fy = points[f + 1];
+    let mut sx = fx;
+    let mut sy = fy;
+    let mut x0 = fx;
+    let mut x1 = fx;
+    let mut y0 = fy;
+    let mut y1 = fy;
+    let mut k = 1;
+    while k < part.len() {
+        let i = 2 * (part[k] as usize);
+        let x = points[i];
+        let y = points[i + 1];
+        sx = sx + x;
+        sy = sy + y;
+        x0 = smaller(x0, x);
+        x1 = larger(x1, x);
+        y0 = smaller(y0, y);
+        y1 = larger(y1, y);
+        k += 1;
+    }
+    let n = (part.len() as u32) as f64;
+    Bounds {
+        cx: sx / n,
+        cy: sy / n,
+        min_x: x0,
+        max_x: x1,
+        min_y: y0,
+        max_y: y1,
+    }
+}
+
+// Whether an end of the box is a zero, of either sign.
+fn on_zero(b: Bounds) -> bool
+    ensures { λ r. ⌜ r ≡ on-zero b ⌝ }
+{
+    b.min_x == 0.0 || b.max_x == 0.0 || b.min_y == 0.0 || b.max_y == 0.0
+}
+
+// The tight box of a part, and the mean of its points. The order of numbers finds the ends without a jump, and differs
+// from totalOrder in the two zeros alone: only where an end is a zero are they sought again, by totalOrder.
+fn box_of(points: &[f64], part: &[u32]) -> Bounds
+    requires { ⌜ Ready (now points) (now part) ⌝ }
+    requires { ⌜ length (now part) < 2 ^ 32 ⌝ }
+    ensures { λ r. ⌜ Box (now (points .entry)) (now (part .entry)) (own-of r) ⌝ }
+{
+    let b = plain_box(points, part);
+    if on_zero(b) {
+        return exact_box(points, part);
+    }
+    b
 }
 
 // X, unless the box is higher than it is wide.
