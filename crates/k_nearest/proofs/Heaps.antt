@@ -54,8 +54,8 @@ over-is k held is ds d R =
     go false e = ap (λ (x : Float). over held k x d) (top (ltb-false held k e))
 
 -- what the code found of a node's bound is what the definition says of skipping it
-pub skip-is : (k held : ℕ) (is : List ℕ) (ds : List Float) → Room k held is ds → (d w : Float) (o z : Bool) → w ≡ d → o ≡ over held k (getD ds 0 nan) w → o ≡ z → over-top k (heap-of held is ds) d ≡ z
-skip-is k held is ds R d w o z e f h = over-is k held is ds d R ∙ ap (over held k (getD ds 0 nan)) (sym e) ∙ sym f ∙ h
+pub skip-is : (k held : ℕ) (is : List ℕ) (ds : List Float) → Room k held is ds → (d : Float) (o z : Bool) → o ≡ over held k (getD ds 0 nan) d → o ≡ z → over-top k (heap-of held is ds) d ≡ z
+skip-is k held is ds R d o z f h = over-is k held is ds d R ∙ sym f ∙ h
 
 -- ---- what a walk gave, case by case
 pub walked-damaged : (r : Walked) (is : List ℕ) (ds : List Float) → r ≡ Damaged → walked r is ds ≡ broken

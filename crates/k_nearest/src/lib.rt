@@ -13,11 +13,14 @@ use distance::Coord;
 use search::Found;
 use tree::Kind;
 ghost use mathlib.Core.Path.{_≡_};
+ghost use mathlib.Core.Bool.{true};
 ghost use mathlib.Core.List.{[]};
 ghost use Prim.Native.Nat.{_+_, _-_, _*_, _/_, _^_, _<_, _≤_, min};
 ghost use lib.ListN.{length, getD};
 ghost use lib.Ieee.{nan};
+ghost use Rattle.distance.specs.Distance.{bound};
 ghost use Rattle.tree.specs.Points.{size};
+ghost use Rattle.tree.specs.Node.{bounds, kind, sound};
 ghost use Rattle.tree.specs.Accepted.{tree};
 ghost use Rattle.search.specs.Walk.{scan, outcome, Walks, walk-all};
 ghost use Rattle.search.specs.Answer.{Answers, damaged, hits};
@@ -30,15 +33,15 @@ enum Walked {
     Damaged,
 }
 
-// Whether d is above the first of k held, the farthest of them.
-fn over_top(d2s: &[f64], held: usize, k: usize, d: f64) -> bool
-    requires { ⌜ (0 < k) × (k ≤ length (now d2s)) ⌝ }
-    ensures { λ r. ⌜ r ≡ over held k (getD (now (d2s .entry)) 0 nan) d ⌝ }
+// Whether a node lies farther than the farthest of k held; before k are held, none is passed over.
+fn passes(boxes: &[f64], node: u32, q: Coord, d2s: &[f64], held: usize, k: usize) -> bool
+    requires { ⌜ (0 < k) × (k ≤ length (now d2s)) × (node * 6 + 6 ≤ length (now boxes)) ⌝ }
+    ensures { λ r. ⌜ r ≡ over held k (getD (now (d2s .entry)) 0 nan) (bound q (bounds (now (boxes .entry)) node)) ⌝ }
 {
     if held < k {
         return false;
     }
-    d2s[0] < d
+    d2s[0] < search::node_bound(boxes, node, q)
 }
 
 // The points of a leaf, each offered to the heap.
@@ -73,7 +76,8 @@ fn scan_part(
     Walked::Held(n)
 }
 
-// The walk of the node that is to cover start to end, with so many held in the heap.
+// From a sound node over start to end, with so many held in the heap. A branch tests both its children before it visits
+// either, and the farther one again by its bound, so that most of those cost no call.
 fn knn_search(
     points: &[f64],
     indices: &[u32],
@@ -88,18 +92,13 @@ fn knn_search(
     near: &mut [u32],
     d2s: &mut [f64],
 ) -> Walked
-    requires { ⌜ (start < end) × Room k held (now near) (now d2s) ⌝ }
+    requires { ⌜ (start < end) × (sound (kind (now boxes) (now links) node start end) ≡ true) × Room k held (now near) (now d2s) ⌝ }
     ensures { λ r. ⌜ Walks (tree (now (points .entry)) (now (indices .entry)) (now (boxes .entry)) (now (links .entry))) (holding k (now (points .entry)) q) node start end (heap-of held (now (near .entry)) (now (d2s .entry))) (walked r (now (near .exit)) (now (d2s .exit))) × Grew k held (now (near .entry)) (now (d2s .entry)) r (now (near .exit)) (now (d2s .exit)) ⌝ }
 {
-    let kind = tree::kind_at(boxes, links, node, start, end);
-    if let Kind::Damaged = kind {
-        return Walked::Damaged;
-    }
-    let far = search::node_bound(boxes, node, q);
-    if over_top(d2s, held, k, far) {
+    if passes(boxes, node, q, d2s, held, k) {
         return Walked::Held(held);
     }
-    let Kind::Branch(left, right) = kind else {
+    let Kind::Branch(left, right) = tree::kind_of(links, node) else {
         return scan_part(
             points,
             tree::part_of(indices, start, end),
@@ -111,69 +110,47 @@ fn knn_search(
         );
     };
     let mid = start + (end - start) / 2;
-    if search::ordered_children(boxes, left, right, q) {
-        let Walked::Held(n) = knn_search(
-            points,
-            indices,
-            boxes,
-            links,
-            q,
-            k,
-            left,
-            start,
-            mid,
-            held,
-            near,
-            d2s,
-        ) else {
-            return Walked::Damaged;
-        };
-        knn_search(
-            points,
-            indices,
-            boxes,
-            links,
-            q,
-            k,
-            right,
-            mid,
-            end,
-            n,
-            near,
-            d2s,
-        )
-    } else {
-        let Walked::Held(n) = knn_search(
-            points,
-            indices,
-            boxes,
-            links,
-            q,
-            k,
-            right,
-            mid,
-            end,
-            held,
-            near,
-            d2s,
-        ) else {
-            return Walked::Damaged;
-        };
-        knn_search(
-            points,
-            indices,
-            boxes,
-            links,
-            q,
-            k,
-            left,
-            start,
-            mid,
-            n,
-            near,
-            d2s,
-        )
+    if !tree::sound_at(boxes, links, left, start, mid) {
+        return Walked::Damaged;
     }
+    if !tree::sound_at(boxes, links, right, mid, end) {
+        return Walked::Damaged;
+    }
+    let first = search::ordered_children(boxes, left, right, q);
+    let t = search::in_turn(first, left, right, start, mid, end);
+    let Walked::Held(n) = knn_search(
+        points,
+        indices,
+        boxes,
+        links,
+        q,
+        k,
+        t.near,
+        t.near_start,
+        t.near_end,
+        held,
+        near,
+        d2s,
+    ) else {
+        return Walked::Damaged;
+    };
+    if passes(boxes, t.far, q, d2s, n, k) {
+        return Walked::Held(n);
+    }
+    knn_search(
+        points,
+        indices,
+        boxes,
+        links,
+        q,
+        k,
+        t.far,
+        t.far_start,
+        t.far_end,
+        n,
+        near,
+        d2s,
+    )
 }
 
 // The walk from node 0 over all n entries, with an empty heap.
@@ -192,6 +169,9 @@ fn knn_all(
 {
     let n = points.len() / 2;
     if indices.len() < n {
+        return Walked::Damaged;
+    }
+    if !tree::sound_at(boxes, links, 0, 0, n) {
         return Walked::Damaged;
     }
     knn_search(points, indices, boxes, links, q, k, 0, 0, n, 0, near, d2s)

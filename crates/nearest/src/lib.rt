@@ -4,9 +4,11 @@
 use distance::Coord;
 use tree::Kind;
 ghost use mathlib.Core.Path.{_≡_};
+ghost use mathlib.Core.Bool.{true};
 ghost use Prim.Native.Nat.{_+_, _-_, _*_, _/_, _<_, _≤_};
 ghost use lib.ListN.{length};
 ghost use Rattle.tree.specs.Points.{size};
+ghost use Rattle.tree.specs.Node.{kind, sound};
 ghost use Rattle.tree.specs.Accepted.{tree};
 ghost use Rattle.search.specs.Walk.{scan, outcome, Walks};
 ghost use Rattle.search.specs.Order.{best};
@@ -57,7 +59,8 @@ fn scan_leaf(points: &[f64], part: &[u32], q: Coord, d2: &mut f64, index: &mut u
     true
 }
 
-// From a node that is to cover start to end, with the best so far in two cells; false where damage is met.
+// From a sound node over start to end, with the best so far in two cells; false where damage is met. A branch tests both
+// its children before it visits either, and the farther one again by its bound, so that most of those cost no call.
 fn nn_search(
     points: &[f64],
     indices: &[u32],
@@ -70,56 +73,53 @@ fn nn_search(
     d2: &mut f64,
     index: &mut u32,
 ) -> bool
-    requires { ⌜ start < end ⌝ }
+    requires { ⌜ (start < end) × (sound (kind (now boxes) (now links) node start end) ≡ true) ⌝ }
     ensures { λ r. ⌜ Walks (tree (now (points .entry)) (now (indices .entry)) (now (boxes .entry)) (now (links .entry))) (nearest (now (points .entry)) q) node start end (best (now (d2 .entry)) (now (index .entry))) (celled r (best (now (d2 .exit)) (now (index .exit)))) ⌝ }
 {
-    let k = tree::kind_at(boxes, links, node, start, end);
-    if let Kind::Damaged = k {
-        return false;
-    }
-    let far = search::node_bound(boxes, node, q);
-    if *d2 < far {
+    if *d2 < search::node_bound(boxes, node, q) {
         return true;
     }
-    let Kind::Branch(left, right) = k else {
+    let Kind::Branch(left, right) = tree::kind_of(links, node) else {
         return scan_leaf(points, tree::part_of(indices, start, end), q, d2, index);
     };
     let mid = start + (end - start) / 2;
-    if search::ordered_children(boxes, left, right, q) {
-        if nn_search(
-            points,
-            indices,
-            boxes,
-            links,
-            q,
-            left,
-            start,
-            mid,
-            d2,
-            index,
-        ) {
-            nn_search(points, indices, boxes, links, q, right, mid, end, d2, index)
-        } else {
-            false
-        }
-    } else {
-        if nn_search(points, indices, boxes, links, q, right, mid, end, d2, index) {
-            nn_search(
-                points,
-                indices,
-                boxes,
-                links,
-                q,
-                left,
-                start,
-                mid,
-                d2,
-                index,
-            )
-        } else {
-            false
-        }
+    if !tree::sound_at(boxes, links, left, start, mid) {
+        return false;
     }
+    if !tree::sound_at(boxes, links, right, mid, end) {
+        return false;
+    }
+    let first = search::ordered_children(boxes, left, right, q);
+    let t = search::in_turn(first, left, right, start, mid, end);
+    if !nn_search(
+        points,
+        indices,
+        boxes,
+        links,
+        q,
+        t.near,
+        t.near_start,
+        t.near_end,
+        d2,
+        index,
+    ) {
+        return false;
+    }
+    if *d2 < search::node_bound(boxes, t.far, q) {
+        return true;
+    }
+    nn_search(
+        points,
+        indices,
+        boxes,
+        links,
+        q,
+        t.far,
+        t.far_start,
+        t.far_end,
+        d2,
+        index,
+    )
 }
 
 // The nearest point to (x, y).
@@ -143,6 +143,9 @@ pub fn nearest_neighbour(
         return Nearest::Empty;
     }
     if indices.len() < n {
+        return Nearest::Refused(9);
+    }
+    if !tree::sound_at(boxes, links, 0, 0, n) {
         return Nearest::Refused(9);
     }
     let mut d2 = 1.0 / 0.0;

@@ -6,6 +6,7 @@ pub mod Insert
 pub mod Rank
 pub mod Own
 pub mod Steps
+pub mod Turning
 pub mod Fronts
 pub mod Written
 pub mod Answered

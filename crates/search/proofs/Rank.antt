@@ -12,7 +12,7 @@ use Rattle.distance.specs.Distance.{bound}
 use lib.Ieee.Scale.{finite}
 use Rattle.distance.proofs.Mono.{d2-nonneg}
 use Rattle.distance.proofs.Order.{lt-is-not-le, plain, nonneg-plain}
-use Rattle.distance.proofs.Prune.{le-self, prune-strict}
+use Rattle.distance.proofs.Prune.{le-self, lt-not-le, prune-strict}
 use Rattle.distance.specs.TotalOrder.{key}
 use Rattle.distance.proofs.TotalKey.{key-lt-all, key-inj}
 use Rattle.distance.proofs.Squares.{d2-fits, Three, below, same, above, three}
@@ -41,22 +41,21 @@ no-nan (inf s) p = tt
 no-nan (fin s m e) p = tt
 
 -- ---- the three cases of `before`
-module _ (z w : Float) (p : T (plain z)) (q : T (plain w)) where
-  less : T (lt z w) → (b : Bool) → (lt z w || (eq z w && b)) ≡ true
-  less h b = ap (λ (c : Bool). c || (eq z w && b)) (is-true (lt z w) h)
+less : (z w : Float) → T (lt z w) → (b : Bool) → (lt z w || (eq z w && b)) ≡ true
+less z w h b = ap (λ (c : Bool). c || (eq z w && b)) (is-true (lt z w) h)
 
-  more : T (lt w z) → (b : Bool) → (lt z w || (eq z w && b)) ≡ false
-  unfolding le
-  more h b = go (lt z w) (eq z w) (neither (lt z w || eq z w) (sym (is-true (lt w z) h) ∙ lt-is-not-le w z (no-nan w q) (no-nan z p)))
-    where
-      neither : (c : Bool) → true ≡ not c → c ≡ false
-      neither true e = e
-      neither false e = refl
+more : (z w : Float) → T (lt w z) → (b : Bool) → (lt z w || (eq z w && b)) ≡ false
+unfolding le
+more z w h b = go (lt z w) (eq z w) (lt-not-le w z h)
+  where
+    go : (c d : Bool) → (T (c || d) → ⊥) → (c || (d && b)) ≡ false
+    go true d e = absurd (e tt)
+    go false true e = absurd (e tt)
+    go false false e = refl
 
-      go : (c d : Bool) → (c || d) ≡ false → (c || (d && b)) ≡ false
-      go true d e = e
-      go false true e = absurd (subst T e tt)
-      go false false e = refl
+-- a point that is farther than another does not stand before it
+pub farther : (z w : Float) (i j : ℕ) → lt w z ≡ true → before (best z i) (best w j) ≡ false
+farther z w i j h = more z w (subst T (sym h) tt) (ltb i j)
 
 like : (z : Float) → T (plain z) → (b : Bool) → (lt z z || (eq z z && b)) ≡ b
 unfolding le
@@ -83,13 +82,13 @@ before-is s a g h = go (three (s .d2) (a .d2) (g .held) (h .held) (g .plain) (h 
 
     go : Three (s .d2) (a .d2) → before s a ≡ ltb (key (s .d2) * 2 ^ 32 + s .index) (key (a .d2) * 2 ^ 32 + a .index)
     go (below l) =
-        less (s .d2) (a .d2) (g .plain) (h .plain) l (ltb (s .index) (a .index))
+        less (s .d2) (a .d2) l (ltb (s .index) (a .index))
         ∙ sym (lt-ltb (key (s .d2) * 2 ^ 32 + s .index) (key (a .d2) * 2 ^ 32 + a .index) (up (key (s .d2)) (key (a .d2)) (s .index) (a .index) (key-lt-all (s .d2) (a .d2) (g .held) (h .held) l) (g .small)))
     go (same e) =
         subst (λ (z : Float). before s (best z (a .index)) ≡ ltb (key (s .d2) * 2 ^ 32 + s .index) (key z * 2 ^ 32 + a .index)) e
         (like (s .d2) (g .plain) (ltb (s .index) (a .index)) ∙ beside (key (s .d2)) (s .index) (a .index) (ltb (s .index) (a .index)) refl)
     go (above l) =
-        more (s .d2) (a .d2) (g .plain) (h .plain) l (ltb (s .index) (a .index))
+        more (s .d2) (a .d2) l (ltb (s .index) (a .index))
         ∙ sym (le-ltb (key (s .d2) * 2 ^ 32 + s .index) (key (a .d2) * 2 ^ 32 + a .index) (down (key (s .d2)) (key (a .d2)) (s .index) (a .index) (key-lt-all (a .d2) (s .d2) (h .held) (g .held) l) (h .small)))
 
 -- ---- the points of an accepted tree, seen from a finite place

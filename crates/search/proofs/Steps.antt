@@ -44,7 +44,7 @@ then-found : {S : Type 0} (w : Walk S) (f : S → Walk S) (s : S) → got s ≡ 
 then-found {S} damage f s h = let z : _≡_ {A = ℕ} 0 1 = cc in absurd (omega arith)
 then-found {S} (done s' n d) f s h = let e : s' ≡ s = cc in outcome-more n d (f s') ∙ ap (λ (z : S). outcome (f z)) e
 
-then-damaged : {S : Type 0} (w : Walk S) (f : S → Walk S) → broken ≡ outcome w → outcome (and-then w f) ≡ broken
+pub then-damaged : {S : Type 0} (w : Walk S) (f : S → Walk S) → broken ≡ outcome w → outcome (and-then w f) ≡ broken
 then-damaged damage f h = refl
 then-damaged (done s n d) f h = let z : _≡_ {A = ℕ} 0 1 = cc in absurd (omega arith)
 
@@ -79,7 +79,7 @@ module _ {S : Type 0} (t : Tree) (Q : Search S) (v a e : ℕ) (s : S) where
 
   -- a branch whose box is not passed over, and the child that is visited first
   module _ (l r : ℕ) (is : kind (t .boxes) (t .links) v a e ≡ Branch l r) (p : Q .skip s (bounds (t .boxes) v) ≡ false) where
-    at-branch : (z : Bool) → Q .left-first (bounds (t .boxes) l) (bounds (t .boxes) r) ≡ z → (f : ℕ)
+    pub at-branch : (z : Bool) → Q .left-first (bounds (t .boxes) l) (bounds (t .boxes) r) ≡ z → (f : ℕ)
         → outcome (walk t Q (suc f) v a e s)
         ≡ outcome (cond z
         (and-then (walk t Q f l a (mid a e) s) (walk t Q f r (mid a e) e))

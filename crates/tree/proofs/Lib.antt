@@ -2,3 +2,4 @@
 pub mod ChildNumbers
 pub mod Counting
 pub mod NotFinite
+pub mod Sound

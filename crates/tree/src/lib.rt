@@ -4,11 +4,11 @@
 // counted; nothing is asked of the slices, whoever made them.
 use distance::Bounds;
 ghost use mathlib.Core.Path.{_≡_};
-ghost use Prim.Native.Nat.{_+_, _-_, _<_, _≤_};
-ghost use lib.ListN.{getD};
+ghost use Prim.Native.Nat.{_+_, _-_, _*_, _^_, _<_, _≤_};
+ghost use lib.ListN.{length, getD};
 ghost use lib.Ieee.{nan};
 ghost use Rattle.tree.specs.Points.{limit, FirstBad};
-ghost use Rattle.tree.specs.Node.{bounds, children, kind, part};
+ghost use Rattle.tree.specs.Node.{bounds, children, kind, sound, known, part};
 ghost use Rattle.tree.specs.Count.{leaf-of, nodes, node-count};
 
 // What a node is: a leaf, a branch with its two children, or damage.
@@ -40,9 +40,10 @@ pub fn bounds_at(boxes: &[f64], node: u32) -> Bounds
     }
 }
 
-// What the children of a node over so many entries make it.
-fn children(size: usize, left: u32, right: u32) -> Kind
-    ensures { λ r. ⌜ r ≡ children size left right ⌝ }
+// What its children make of a node over start to end.
+fn children(start: usize, end: usize, left: u32, right: u32) -> Kind
+    requires { ⌜ start < 2 ^ 32 ⌝ }
+    ensures { λ r. ⌜ r ≡ children (end - start) left right ⌝ }
 {
     if left == 0 {
         if right == 0 {
@@ -52,7 +53,7 @@ fn children(size: usize, left: u32, right: u32) -> Kind
         }
     } else if right == 0 {
         Kind::Damaged
-    } else if size > 1 {
+    } else if start + 1 < end {
         Kind::Branch(left, right)
     } else {
         Kind::Damaged
@@ -76,14 +77,46 @@ pub fn kind_at(boxes: &[f64], links: &[u32], node: u32, start: usize, end: usize
     if links[v * 4 + 1] as usize != end {
         return Kind::Damaged;
     }
-    children(size_of(start, end), links[v * 4 + 2], links[v * 4 + 3])
+    children(start, end, links[v * 4 + 2], links[v * 4 + 3])
 }
 
-// How many entries there are from start to end.
-fn size_of(start: usize, end: usize) -> usize
-    ensures { λ r. ⌜ r ≡ end - start ⌝ }
+// Whether there is no damage at that place.
+pub fn sound_at(boxes: &[f64], links: &[u32], node: u32, start: usize, end: usize) -> bool
+    ensures { λ r. ⌜ r ≡ sound (kind (now (boxes .entry)) (now (links .entry)) node start end) ⌝ }
 {
-    if start < end { end - start } else { 0 }
+    if let Kind::Damaged = kind_at(boxes, links, node, start, end) {
+        return false;
+    }
+    true
+}
+
+// What a sound node is: only its children are left to read. An inner function, as the next: a walk has tested the node.
+pub fn kind_of(links: &[u32], node: u32) -> Kind
+    requires { ⌜ node * 4 + 4 ≤ length (now links) ⌝ }
+    ensures { λ r. ⌜ r ≡ known (now (links .entry)) node ⌝ }
+{
+    let v = node as usize;
+    let left = links[v * 4 + 2];
+    if left == 0 {
+        return Kind::Leaf;
+    }
+    Kind::Branch(left, links[v * 4 + 3])
+}
+
+// The centre and the box of a node that is whole.
+pub fn bounds_of(boxes: &[f64], node: u32) -> Bounds
+    requires { ⌜ node * 6 + 6 ≤ length (now boxes) ⌝ }
+    ensures { λ r. ⌜ r ≡ bounds (now (boxes .entry)) node ⌝ }
+{
+    let b = node as usize * 6;
+    Bounds {
+        cx: boxes[b],
+        cy: boxes[b + 1],
+        min_x: boxes[b + 2],
+        max_x: boxes[b + 3],
+        min_y: boxes[b + 4],
+        max_y: boxes[b + 5],
+    }
 }
 
 // The indices under a node: that part of the caller's own slice, or an empty one where it does not lie in it.

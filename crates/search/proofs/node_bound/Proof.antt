@@ -5,14 +5,14 @@ use borrow.Author.Needs.{needs}
 use Rattle.search.proofs.node_bound.Statement.{statement}
 use Rattle.search.proofs.node_bound.Tie as tie
 
-bounds-at-requires : tie.Need-bounds-at-requires
-bounds-at-requires c κs = search needs
+bounds-of-requires : tie.Need-bounds-of-requires
+bounds-of-requires c κs = search needs
 
 box-bound-requires : tie.Need-box-bound-requires
 box-bound-requires c κs = search needs
 
 returns : tie.Need-returns
-returns c = c .box-bound .ensures ∙ ap (bound _) (c .before .bounds-at .ensures)
+returns c = c .box-bound .ensures ∙ ap (bound _) (c .before .bounds-of .ensures)
 
 pub node-bound-spec : {M : Type 1} → statement M
-node-bound-spec = tie.close (tie.spec bounds-at-requires box-bound-requires returns)
+node-bound-spec = tie.close (tie.spec bounds-of-requires box-bound-requires returns)

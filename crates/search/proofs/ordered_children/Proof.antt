@@ -5,11 +5,11 @@ use borrow.Author.Needs.{needs}
 use Rattle.search.proofs.ordered_children.Statement.{statement}
 use Rattle.search.proofs.ordered_children.Tie as tie
 
-bounds-at-requires : tie.Need-bounds-at-requires
-bounds-at-requires c κs = search needs
+bounds-of-requires : tie.Need-bounds-of-requires
+bounds-of-requires c κs = search needs
 
-bounds-at-requires-2 : tie.Need-bounds-at-requires-2
-bounds-at-requires-2 c κs = search needs
+bounds-of-requires-2 : tie.Need-bounds-of-requires-2
+bounds-of-requires-2 c κs = search needs
 
 centre-distance-sq-requires : tie.Need-centre-distance-sq-requires
 centre-distance-sq-requires c κs = search needs
@@ -20,14 +20,14 @@ centre-distance-sq-requires-2 c κs = search needs
 returns : tie.Need-returns
 returns c =
     let b = c .before .before in
-    rw (sym (c .before .centre-distance-sq .ensures ∙ ap (centre _) (b .before .bounds-at .ensures)), sym (c .centre-distance-sq2 .ensures ∙ ap (centre _) (b .bounds-at2 .ensures))) refl
+    rw (sym (c .before .centre-distance-sq .ensures ∙ ap (centre _) (b .before .bounds-of .ensures)), sym (c .centre-distance-sq2 .ensures ∙ ap (centre _) (b .bounds-of2 .ensures))) refl
 
 pub ordered-children-spec : {M : Type 1} → statement M
 ordered-children-spec =
     tie.close
     (tie.spec
-    bounds-at-requires
-    bounds-at-requires-2
+    bounds-of-requires
+    bounds-of-requires-2
     centre-distance-sq-requires
     centre-distance-sq-requires-2
     returns)

@@ -1,5 +1,4 @@
 -- `tree::kind_at` meets its contract, test by test. Assumes nothing.
-use mathlib.Core.Path.{sym}
 use borrow.Author.Tests.{le-leb, lt-leb, eq-eqb, ne-eqb}
 use native.Mathlib.Omega.{arith}
 use Prim.Native.Nat.{_+_, _*_}
@@ -58,9 +57,6 @@ cast-if4 c = omega (arith, c .shared-slice-known4 .given (c .before .before .bef
 returns-4 : tie.Need-returns-4
 returns-4 c = simp (le-leb _ _ (c .before .before .before .before .before .if1 .left), le-leb _ _ (c .before .before .before .before .if2 .left), eq-eqb _ _ (c .before .before .if3 .left), ne-eqb _ _ (c .if4 .taken))
 
-size-of-requires : tie.Need-size-of-requires
-size-of-requires c κs = search needs
-
 mul-children : tie.Need-mul-children
 mul-children c = search needs
 
@@ -86,12 +82,14 @@ shared-slice-read-children-2 : tie.Need-shared-slice-read-children-2
 shared-slice-read-children-2 c = search needs
 
 children-requires : tie.Need-children-requires
-children-requires c κs = search needs
+children-requires c κs =
+    let b = c .before .before in
+    omega (arith, b .before .before .before .shared-slice-known3 .given (b .before .before .before .before .before .before .before .before .args .node * 4))
 
 returns-5 : tie.Need-returns-5
 returns-5 c =
-    let b = c .before .before .before in
-    simp (le-leb _ _ (b .before .before .before .before .before .before .if1 .left), le-leb _ _ (b .before .before .before .before .before .if2 .left), eq-eqb _ _ (b .before .before .before .if3 .left), eq-eqb _ _ (b .before .if4 .left), sym (b .size-of .ensures)) (c .children .ensures)
+    let b = c .before .before in
+    simp (le-leb _ _ (b .before .before .before .before .before .before .if1 .left), le-leb _ _ (b .before .before .before .before .before .if2 .left), eq-eqb _ _ (b .before .before .before .if3 .left), eq-eqb _ _ (b .before .if4 .left)) (c .children .ensures)
 
 pub kind-at-spec : {M : Type 1} → statement M
 kind-at-spec =
@@ -114,7 +112,6 @@ kind-at-spec =
     shared-slice-read-if4
     cast-if4
     returns-4
-    size-of-requires
     mul-children
     add-children
     mul-children-2
