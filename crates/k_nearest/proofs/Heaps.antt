@@ -18,7 +18,7 @@ use Rattle.heap.specs.Heap.{pairs, blank}
 use Rattle.heap.proofs.Steps.{past-more}
 use Rattle.heap.proofs.Pairs.{pairs-at, pairs-long}
 use Rattle.k_nearest.specs.Query.{over, over-top}
-use Rattle.k_nearest.specs.Inner.{heap-of, Room, walked, Larger, Grew}
+use Rattle.k_nearest.specs.Inner.{heap-of, Room, walked, celled, Larger, Grew}
 use Rattle.k_nearest.specs.declared.Walked.{Walked}
 use Rattle.k_nearest.specs.declared.Walked.the-variants.{Held, Damaged}
 
@@ -73,6 +73,13 @@ grew-damaged k held is₀ ds₀ is ds = record { grows = λ m e. let z : _≡_ {
 -- one walk, and another from where it ends
 pub grew-then : (k held n : ℕ) (is₀ is js : List ℕ) (ds₀ ds es : List Float) (r : Walked) → Larger k held is₀ ds₀ n is ds → Grew k n is ds r js es → Grew k held is₀ ds₀ r js es
 grew-then k held n is₀ is js ds₀ ds es r L g = record { grows = λ m e. larger-then k held is₀ ds₀ n m is js ds es L (g .grows m e) }
+
+-- ---- the same by its flag and the count in its cell
+pub celled-held : (b : Bool) (n : ℕ) → b ≡ true → celled b n ≡ Held n
+celled-held b n h = rw h
+
+pub celled-damaged : (b : Bool) (n : ℕ) → b ≡ false → celled b n ≡ Damaged
+celled-damaged b n h = rw h
 
 -- ---- from node 0
 module _ {S : Type 0} (t : Tree) (Q : Search S) (s : S) where

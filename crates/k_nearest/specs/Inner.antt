@@ -2,6 +2,7 @@
 --   heap-of held is ds   the points held: the first entries of an index slice and of a slice of squared distances
 --   Room k held is ds    so many are held, of at most k, and both slices have room for k
 --   walked r is ds       what a walk that gave r comes to, given the slices that it left
+--   celled r n           a walk's answer with its count in a cell: n held where r is true, else damage, whatever n is
 --   Grew k held is₀ ds₀ r is ds  where a walk met no damage it holds as many as before or more, k at most, and past them
 --                        nothing changed
 --   probed r             what a walk that holds nothing comes to
@@ -29,6 +30,10 @@ pub record Room (k held : ℕ) (is : List ℕ) (ds : List Float) : Type 0 where
 abbrev pub walked : Walked → List ℕ → List Float → Got (List Best)
 walked (Held n) is ds = got (heap-of n is ds)
 walked Damaged is ds = broken
+
+abbrev pub celled : Bool → ℕ → Walked
+celled true n = Held n
+celled false n = Damaged
 
 pub record Larger (k held : ℕ) (is₀ : List ℕ) (ds₀ : List Float) (n : ℕ) (is : List ℕ) (ds : List Float) : Type 0 where
   pub more : held ≤ n

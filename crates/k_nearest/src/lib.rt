@@ -25,7 +25,7 @@ ghost use Rattle.tree.specs.Accepted.{tree};
 ghost use Rattle.search.specs.Walk.{scan, outcome, Walks, walk-all};
 ghost use Rattle.search.specs.Answer.{Answers, damaged, hits};
 ghost use Rattle.k_nearest.specs.Query.{place, over, holding, probing, sorted, found, no-room, answer};
-ghost use Rattle.k_nearest.specs.Inner.{heap-of, Room, walked, Grew, probed};
+ghost use Rattle.k_nearest.specs.Inner.{heap-of, Room, walked, celled, Grew, probed};
 
 // What a walk comes to: how many points it holds, or damage.
 enum Walked {
@@ -44,26 +44,26 @@ fn passes(boxes: &[f64], node: u32, q: Coord, d2s: &[f64], held: usize, k: usize
     d2s[0] < search::node_bound(boxes, node, q)
 }
 
-// The points of a leaf, each offered to the heap.
+// The points of a leaf, each offered to the heap, with the count in a cell; false where an index is no point's.
 fn scan_part(
     points: &[f64],
     part: &[u32],
     q: Coord,
     k: usize,
-    held: usize,
     near: &mut [u32],
     d2s: &mut [f64],
-) -> Walked
-    requires { ⌜ Room k held (now near) (now d2s) ⌝ }
-    ensures { λ r. ⌜ (walked r (now (near .exit)) (now (d2s .exit)) ≡ outcome (scan (size (now (points .entry))) (holding k (now (points .entry)) q .next) 1 (heap-of held (now (near .entry)) (now (d2s .entry))) (now (part .entry)))) × Grew k held (now (near .entry)) (now (d2s .entry)) r (now (near .exit)) (now (d2s .exit)) ⌝ }
+    held: &mut usize,
+) -> bool
+    requires { ⌜ Room k (now held) (now near) (now d2s) ⌝ }
+    ensures { λ r. ⌜ (walked (celled r (now (held .exit))) (now (near .exit)) (now (d2s .exit)) ≡ outcome (scan (size (now (points .entry))) (holding k (now (points .entry)) q .next) 1 (heap-of (now (held .entry)) (now (near .entry)) (now (d2s .entry))) (now (part .entry)))) × Grew k (now (held .entry)) (now (near .entry)) (now (d2s .entry)) (celled r (now (held .exit))) (now (near .exit)) (now (d2s .exit)) ⌝ }
 {
-    let mut n = held;
+    let mut n = *held;
     let mut j: usize = 0;
     while j < part.len() {
         let w = part[j];
         let i = w as usize;
         if i >= points.len() / 2 {
-            return Walked::Damaged;
+            return false;
         }
         let p = Coord {
             x: points[2 * i],
@@ -73,11 +73,12 @@ fn scan_part(
         n = heap::offer(near, d2s, n, k, w, d);
         j += 1;
     }
-    Walked::Held(n)
+    *held = n;
+    true
 }
 
-// From a sound node over start to end, with so many held in the heap. A branch tests both its children before it visits
-// either, and the farther one again by its bound, so that most of those cost no call.
+// From a sound node over start to end, with the count of the heap in a cell; false where damage is met. A branch tests both
+// its children before it visits either, and the farther one again by its bound, so that most of those cost no call.
 fn knn_search(
     points: &[f64],
     indices: &[u32],
@@ -88,15 +89,15 @@ fn knn_search(
     node: u32,
     start: usize,
     end: usize,
-    held: usize,
     near: &mut [u32],
     d2s: &mut [f64],
-) -> Walked
-    requires { ⌜ (start < end) × (sound (kind (now boxes) (now links) node start end) ≡ true) × Room k held (now near) (now d2s) ⌝ }
-    ensures { λ r. ⌜ Walks (tree (now (points .entry)) (now (indices .entry)) (now (boxes .entry)) (now (links .entry))) (holding k (now (points .entry)) q) node start end (heap-of held (now (near .entry)) (now (d2s .entry))) (walked r (now (near .exit)) (now (d2s .exit))) × Grew k held (now (near .entry)) (now (d2s .entry)) r (now (near .exit)) (now (d2s .exit)) ⌝ }
+    held: &mut usize,
+) -> bool
+    requires { ⌜ (start < end) × (sound (kind (now boxes) (now links) node start end) ≡ true) × Room k (now held) (now near) (now d2s) ⌝ }
+    ensures { λ r. ⌜ Walks (tree (now (points .entry)) (now (indices .entry)) (now (boxes .entry)) (now (links .entry))) (holding k (now (points .entry)) q) node start end (heap-of (now (held .entry)) (now (near .entry)) (now (d2s .entry))) (walked (celled r (now (held .exit))) (now (near .exit)) (now (d2s .exit))) × Grew k (now (held .entry)) (now (near .entry)) (now (d2s .entry)) (celled r (now (held .exit))) (now (near .exit)) (now (d2s .exit)) ⌝ }
 {
-    if passes(boxes, node, q, d2s, held, k) {
-        return Walked::Held(held);
+    if passes(boxes, node, q, d2s, *held, k) {
+        return true;
     }
     let Kind::Branch(left, right) = tree::kind_of(links, node) else {
         return scan_part(
@@ -104,21 +105,21 @@ fn knn_search(
             tree::part_of(indices, start, end),
             q,
             k,
-            held,
             near,
             d2s,
+            held,
         );
     };
     let mid = start + (end - start) / 2;
     if !tree::sound_at(boxes, links, left, start, mid) {
-        return Walked::Damaged;
+        return false;
     }
     if !tree::sound_at(boxes, links, right, mid, end) {
-        return Walked::Damaged;
+        return false;
     }
     let first = search::ordered_children(boxes, left, right, q);
     let t = search::in_turn(first, left, right, start, mid, end);
-    let Walked::Held(n) = knn_search(
+    if !knn_search(
         points,
         indices,
         boxes,
@@ -128,14 +129,14 @@ fn knn_search(
         t.near,
         t.near_start,
         t.near_end,
-        held,
         near,
         d2s,
-    ) else {
-        return Walked::Damaged;
-    };
-    if passes(boxes, t.far, q, d2s, n, k) {
-        return Walked::Held(n);
+        held,
+    ) {
+        return false;
+    }
+    if passes(boxes, t.far, q, d2s, *held, k) {
+        return true;
     }
     knn_search(
         points,
@@ -147,9 +148,9 @@ fn knn_search(
         t.far,
         t.far_start,
         t.far_end,
-        n,
         near,
         d2s,
+        held,
     )
 }
 
@@ -174,7 +175,24 @@ fn knn_all(
     if !tree::sound_at(boxes, links, 0, 0, n) {
         return Walked::Damaged;
     }
-    knn_search(points, indices, boxes, links, q, k, 0, 0, n, 0, near, d2s)
+    let mut held: usize = 0;
+    if !knn_search(
+        points,
+        indices,
+        boxes,
+        links,
+        q,
+        k,
+        0,
+        0,
+        n,
+        near,
+        d2s,
+        &mut held,
+    ) {
+        return Walked::Damaged;
+    }
+    Walked::Held(held)
 }
 
 // Whether every index of a leaf is that of a point.

@@ -13,7 +13,7 @@ use Rattle.search.specs.Walk.{scan, outcome}
 use Rattle.search.proofs.Turning.{Branched, sound-skip, sound-leaf, ready, left-broken, right-broken, near-damaged, near-then, near-skip}
 use Rattle.k_nearest.specs.Query.{holding}
 use Rattle.k_nearest.specs.Inner.{heap-of}
-use Rattle.k_nearest.proofs.Heaps.{larger-none, room-after, skip-is, walked-damaged, walked-held, grew-held, grew-damaged, grew-then}
+use Rattle.k_nearest.proofs.Heaps.{larger-none, room-after, skip-is, walked-damaged, walked-held, grew-held, grew-damaged, celled-held, celled-damaged, grew-then}
 use native.Mathlib.Omega.{arith}
 use borrow.Author.Needs.{needs}
 use borrow.Author.Tests.{not-true, not-false}
@@ -32,51 +32,51 @@ use Rattle.tree.proofs.sound_at.Reads as sound-at-reads
 use Rattle.k_nearest.proofs.+knn_search.{statement}
 use Rattle.k_nearest.proofs.+knn_search.Tie.{close}
 
-abbrev μ-knn-search : Measures 6 knn-search-kinds.ps ℕ
+abbrev μ-knn-search : Measures 7 knn-search-kinds.ps ℕ
 μ-knn-search κs a = a .1 .1 .1 .1 .1 .1 .1 .1 .0 - a .1 .1 .1 .1 .1 .1 .1 .0
 
-abbrev knn-search-at : ℕ → In 6 knn-search-kinds.ps
+abbrev knn-search-at : ℕ → In 7 knn-search-kinds.ps
 knn-search-at t =
-    and 6 knn-search-kinds.ps (is 6 knn-search-kinds.ps μ-knn-search t) knn-search.Pre
+    and 7 knn-search-kinds.ps (is 7 knn-search-kinds.ps μ-knn-search t) knn-search.Pre
 
-abbrev knn-search-below : ℕ → In 6 knn-search-kinds.ps
+abbrev knn-search-below : ℕ → In 7 knn-search-kinds.ps
 knn-search-below t =
-    and 6 knn-search-kinds.ps (falls 6 knn-search-kinds.ps _<_ μ-knn-search t) knn-search.Pre
+    and 7 knn-search-kinds.ps (falls 7 knn-search-kinds.ps _<_ μ-knn-search t) knn-search.Pre
 
 abbrev rs : ℕ → knn-search-lts.Claims
 rs t = (passes-reads.Asked, passes-reads.Learnt, kind-of-reads.Asked, kind-of-reads.Learnt, part-of-reads.Asked, part-of-reads.Learnt, scan-part-reads.Asked, scan-part-reads.Learnt, sound-at-reads.Asked, sound-at-reads.Learnt, ordered-children-reads.Asked, ordered-children-reads.Learnt, in-turn-reads.Asked, in-turn-reads.Learnt, knn-search-below t, knn-search.Post)
 
 knn-search-passes-requires : (t : ℕ) → knn-search-lts.Need-passes-requires (rs t) (knn-search-at t) knn-search.Post
 knn-search-passes-requires t c κs =
-    let st = c .before .before .before .before .before .before .before in
+    let st = c .before .before .before .before .before .before .before .before in
     let a = st .args in
     let p = st .pre .1 in
     (p .2 .some, p .2 .in-d, sound-boxes (now (a .boxes)) (now (a .links)) (a .node) (a .start) (a .end) (p .1))
 
 -- what the definition says of passing over the node, by what the code found
-skips : (t : ℕ) (c : knn-search-lts.After-passes (rs t) (knn-search-at t) knn-search.Post) (z : Bool) → c .passes .result ≡ z → let a = c .before .before .before .before .before .before .before .before .args in
-    holding (a .k) (now (a .points)) (a .q) .skip (heap-of (a .held) (now (a .near)) (now (a .d2s))) (bounds (now (a .boxes)) (a .node)) ≡ z
+skips : (t : ℕ) (c : knn-search-lts.After-passes (rs t) (knn-search-at t) knn-search.Post) (z : Bool) → c .passes .result ≡ z → let a = c .before .before .before .before .before .before .before .before .before .args in
+    holding (a .k) (now (a .points)) (a .q) .skip (heap-of (now (a .held)) (now (a .near)) (now (a .d2s))) (bounds (now (a .boxes)) (a .node)) ≡ z
 skips t c z h =
-    let st = c .before .before .before .before .before .before .before .before in
+    let st = c .before .before .before .before .before .before .before .before .before in
     let a = st .args in
-    skip-is (a .k) (a .held) (now (a .near)) (now (a .d2s)) (st .pre .1 .2) _ _ z (c .passes .ensures) h
+    skip-is (a .k) (now (a .held)) (now (a .near)) (now (a .d2s)) (st .pre .1 .2) _ _ z (c .passes .ensures) h
 
 knn-search-same-length : (t : ℕ) → knn-search-lts.Need-same-length (rs t) (knn-search-at t) knn-search.Post
 knn-search-same-length t c = search needs
 
 knn-search-returns : (t : ℕ) → knn-search-lts.Need-returns (rs t) (knn-search-at t) knn-search.Post
 knn-search-returns t c =
-    let st = c .before .before .before .before .before .before .before .before .before in
+    let st = c .before .before .before .before .before .before .before .before .before .before in
     let a = st .args in
     let p = st .pre .1 in
     let T = tree (now (a .points)) (now (a .indices)) (now (a .boxes)) (now (a .links)) in
     let Q = holding (a .k) (now (a .points)) (a .q) in
-    let s = heap-of (a .held) (now (a .near)) (now (a .d2s)) in
-    (sound-skip T Q (a .node) (a .start) (a .end) s (p .1) (p .0) (skips t (c .before) true (c .if1 .taken)), grew-held _ _ _ _ _ _ _ (larger-none (a .k) (a .held) (now (a .near)) (now (a .d2s)) (p .2 .few)))
+    let s = heap-of (now (a .held)) (now (a .near)) (now (a .d2s)) in
+    (sound-skip T Q (a .node) (a .start) (a .end) s (p .1) (p .0) (skips t (c .before) true (c .if1 .taken)), grew-held _ _ _ _ _ _ _ (larger-none (a .k) (now (a .held)) (now (a .near)) (now (a .d2s)) (p .2 .few)))
 
 knn-search-kind-of-requires : (t : ℕ) → knn-search-lts.Need-kind-of-requires (rs t) (knn-search-at t) knn-search.Post
 knn-search-kind-of-requires t c κs =
-    let st = c .before .before .before .before .before .before .before .before .before in
+    let st = c .before .before .before .before .before .before .before .before .before .before in
     let a = st .args in
     sound-links (now (a .boxes)) (now (a .links)) (a .node) (a .start) (a .end) (st .pre .1 .1)
 
@@ -98,17 +98,17 @@ knn-search-same-length-3 t c = search needs
 knn-search-returns-2 : (t : ℕ) → knn-search-lts.Need-returns-2 (rs t) (knn-search-at t) knn-search.Post
 knn-search-returns-2 t c =
     let g = c .before .before .before .before in
-    let m = g .before .before .before .before in
+    let m = g .before .before .before .before .before in
     let k = m .before in
     let n = k .before .before in
-    let st = n .before .before .before .before .before .before .before .before in
+    let st = n .before .before .before .before .before .before .before .before .before in
     let a = st .args in
     let p = st .pre .1 in
     let T = tree (now (a .points)) (now (a .indices)) (now (a .boxes)) (now (a .links)) in
     let Q = holding (a .k) (now (a .points)) (a .q) in
-    let s = heap-of (a .held) (now (a .near)) (now (a .d2s)) in (
+    let s = heap-of (now (a .held)) (now (a .near)) (now (a .d2s)) in (
       sound-leaf T Q (a .node) (a .start) (a .end) s (p .1) (p .0) (k .kind-of .result) (k .kind-of .ensures) (m .match .keys2) (skips t n false (k .before .if1 .left)) _
-          (g .scan-part .ensures .0 ∙ ap (λ (l : List ℕ). outcome (scan (size (now (a .points))) (Q .next) 1 s l)) (g .before .before .before .part-of .ensures)),
+          (g .scan-part .ensures .0 ∙ ap (λ (l : List ℕ). outcome (scan (size (now (a .points))) (Q .next) 1 s l)) (g .before .before .before .before .part-of .ensures)),
       g .scan-part .ensures .1,
     )
 
@@ -129,11 +129,11 @@ knn-search-returns-3 t c =
     let m = c .before .before .before in
     let k = m .before .before in
     let n = k .before .before in
-    let st = n .before .before .before .before .before .before .before .before in
+    let st = n .before .before .before .before .before .before .before .before .before in
     let a = st .args in
     let T = tree (now (a .points)) (now (a .indices)) (now (a .boxes)) (now (a .links)) in
     let Q = holding (a .k) (now (a .points)) (a .q) in
-    let s = heap-of (a .held) (now (a .near)) (now (a .d2s)) in (
+    let s = heap-of (now (a .held)) (now (a .near)) (now (a .d2s)) in (
       left-broken T Q (a .node) (a .start) (a .end) s _ _
           (sound-known (now (a .boxes)) (now (a .links)) (a .node) (a .start) (a .end) (st .pre .1 .1) ∙ sym (k .kind-of .ensures) ∙ m .left .given .1) (skips t n false (k .before .if1 .left))
           (unsound _ (sym (c .before .sound-at .ensures) ∙ not-true (c .before .sound-at .result) (c .if2 .taken))),
@@ -151,11 +151,11 @@ knn-search-returns-4 t c =
     let m = c .before .before .before .before .before in
     let k = m .before .before in
     let n = k .before .before in
-    let st = n .before .before .before .before .before .before .before .before in
+    let st = n .before .before .before .before .before .before .before .before .before in
     let a = st .args in
     let T = tree (now (a .points)) (now (a .indices)) (now (a .boxes)) (now (a .links)) in
     let Q = holding (a .k) (now (a .points)) (a .q) in
-    let s = heap-of (a .held) (now (a .near)) (now (a .d2s)) in (
+    let s = heap-of (now (a .held)) (now (a .near)) (now (a .d2s)) in (
       right-broken T Q (a .node) (a .start) (a .end) s _ _
           (sound-known (now (a .boxes)) (now (a .links)) (a .node) (a .start) (a .end) (st .pre .1 .1) ∙ sym (k .kind-of .ensures) ∙ m .left .given .1) (skips t n false (k .before .if1 .left))
           (unsound _ (sym (c .before .sound-at2 .ensures) ∙ not-true (c .before .sound-at2 .result) (c .if3 .taken))),
@@ -165,7 +165,7 @@ knn-search-returns-4 t c =
 knn-search-ordered-children-requires : (t : ℕ) → knn-search-lts.Need-ordered-children-requires (rs t) (knn-search-at t) knn-search.Post
 knn-search-ordered-children-requires t c κs =
     let l = c .before .before .before in
-    let a = l .before .before .before .before .before .before .before .before .before .before .before .before .before .before .args in (
+    let a = l .before .before .before .before .before .before .before .before .before .before .before .before .before .before .before .args in (
       sound-boxes (now (a .boxes)) (now (a .links)) _ (a .start) (mid (a .start) (a .end)) (sym (l .sound-at .ensures) ∙ not-false (l .sound-at .result) (c .before .before .if2 .left)),
       sound-boxes (now (a .boxes)) (now (a .links)) _ (mid (a .start) (a .end)) (a .end) (sym (c .before .sound-at2 .ensures) ∙ not-false (c .before .sound-at2 .result) (c .if3 .left)),
     )
@@ -174,8 +174,8 @@ knn-search-in-turn-requires : (t : ℕ) → knn-search-lts.Need-in-turn-requires
 knn-search-in-turn-requires t c κs = search needs
 
 -- what is known once the children stand in turn
-branched : (t : ℕ) (c : knn-search-lts.After-in-turn (rs t) (knn-search-at t) knn-search.Post) → let a = c .before .before .before .before .before .before .before .before .before .before .before .before .before .before .before .before .before .before .before .args in
-    Branched (tree (now (a .points)) (now (a .indices)) (now (a .boxes)) (now (a .links))) (holding (a .k) (now (a .points)) (a .q)) (a .node) (a .start) (a .end) (heap-of (a .held) (now (a .near)) (now (a .d2s))) (c .in-turn .result)
+branched : (t : ℕ) (c : knn-search-lts.After-in-turn (rs t) (knn-search-at t) knn-search.Post) → let a = c .before .before .before .before .before .before .before .before .before .before .before .before .before .before .before .before .before .before .before .before .args in
+    Branched (tree (now (a .points)) (now (a .indices)) (now (a .boxes)) (now (a .links))) (holding (a .k) (now (a .points)) (a .q)) (a .node) (a .start) (a .end) (heap-of (now (a .held)) (now (a .near)) (now (a .d2s))) (c .in-turn .result)
 branched t c =
     let o = c .before in
     let i = o .before .before in
@@ -183,7 +183,7 @@ branched t c =
     let m = j .before .before in
     let k = m .before .before in
     let n = k .before .before in
-    let st = n .before .before .before .before .before .before .before .before in
+    let st = n .before .before .before .before .before .before .before .before .before in
     let a = st .args in
     record {
       l = _;
@@ -199,16 +199,10 @@ branched t c =
 
 knn-search-knn-search-requires : (t : ℕ) → knn-search-lts.Need-knn-search-requires (rs t) (knn-search-at t) knn-search.Post
 knn-search-knn-search-requires t c κs =
-    let o = c .before .before in
-    let p = o .before .before .before .before .before .before .before .before .before .before .before .before .before .before .before .before .before .before .before .pre in
+    let o = c .before .before .before in
+    let p = o .before .before .before .before .before .before .before .before .before .before .before .before .before .before .before .before .before .before .before .before .pre in
     let b = ready (branched t o) in
     (omega (arith, b .near-less, p .0), (b .near-some, b .near-sound, p .1 .2))
-
-knn-search-enum-known-n : (t : ℕ) → knn-search-lts.Need-enum-known-n (rs t) (knn-search-at t) knn-search.Post
-knn-search-enum-known-n t c = search needs
-
-knn-search-enum-told : (t : ℕ) → knn-search-lts.Need-enum-told (rs t) (knn-search-at t) knn-search.Post
-knn-search-enum-told t c = search needs
 
 knn-search-same-length-6 : (t : ℕ) → knn-search-lts.Need-same-length-6 (rs t) (knn-search-at t) knn-search.Post
 knn-search-same-length-6 t c = search needs
@@ -218,19 +212,20 @@ knn-search-same-length-7 t c = search needs
 
 knn-search-returns-5 : (t : ℕ) → knn-search-lts.Need-returns-5 (rs t) (knn-search-at t) knn-search.Post
 knn-search-returns-5 t c =
-    let w = c .before .before .before .before .before .before in
-    (near-damaged (branched t (w .before .before .before)) _ (w .knn-search .ensures .0) (walked-damaged _ _ _ (c .enum-told .given .1)), grew-damaged _ _ _ _ _ _)
+    let w = c .before .before .before .before .before in
+    let e = celled-damaged (w .knn-search .result) _ (not-true (w .knn-search .result) (c .if4 .taken)) in
+    (near-damaged (branched t (w .before .before .before .before)) _ (w .knn-search .ensures .0) (walked-damaged _ _ _ e), grew-damaged _ _ _ _ _ _)
 
 knn-search-passes-requires-2 : (t : ℕ) → knn-search-lts.Need-passes-requires-2 (rs t) (knn-search-at t) knn-search.Post
 knn-search-passes-requires-2 t c κs =
-    let w = c .before .before .before .before .before .before .before .before in
-    let o = w .before .before .before in
-    let st = o .before .before .before .before .before .before .before .before .before .before .before .before .before .before .before .before .before .before .before in
+    let w = c .before .before .before .before .before .before in
+    let o = w .before .before .before .before in
+    let st = o .before .before .before .before .before .before .before .before .before .before .before .before .before .before .before .before .before .before .before .before in
     let a = st .args in
     let u = w .knn-search in
-    let e = c .before .before .n .given .1 in
+    let e = celled-held (u .result) _ (not-false (u .result) (c .before .if4 .left)) in
     let L = u .ensures .1 .grows _ e in
-    let R = room-after (a .k) (a .held) (now (a .near)) (now (a .d2s)) _ _ _ (st .pre .1 .2) L (u .kept .1 .1 .1 .1 .1 .1 .1 .1 .1 .1 .0) (u .kept .1 .1 .1 .1 .1 .1 .1 .1 .1 .1 .1 .0) in
+    let R = room-after (a .k) (now (a .held)) (now (a .near)) (now (a .d2s)) _ _ _ (st .pre .1 .2) L (u .kept .1 .1 .1 .1 .1 .1 .1 .1 .1 .0) (u .kept .1 .1 .1 .1 .1 .1 .1 .1 .1 .1 .0) in
     let T = o .in-turn .result in
     (R .some, R .in-d, sound-boxes (now (a .boxes)) (now (a .links)) (T .far) (T .«far_start») (T .«far_end») (ready (branched t o) .far-sound))
 
@@ -242,28 +237,28 @@ knn-search-same-length-9 t c = search needs
 
 knn-search-returns-6 : (t : ℕ) → knn-search-lts.Need-returns-6 (rs t) (knn-search-at t) knn-search.Post
 knn-search-returns-6 t c =
-    let w = c .before .before .before .before .before .before .before .before .before .before in
-    let o = w .before .before .before in
-    let st = o .before .before .before .before .before .before .before .before .before .before .before .before .before .before .before .before .before .before .before in
+    let w = c .before .before .before .before .before .before .before .before in
+    let o = w .before .before .before .before in
+    let st = o .before .before .before .before .before .before .before .before .before .before .before .before .before .before .before .before .before .before .before .before in
     let a = st .args in
     let u = w .knn-search in
-    let e = c .before .before .before .before .n .given .1 in
+    let e = celled-held (u .result) _ (not-false (u .result) (c .before .before .before .if4 .left)) in
     let L = u .ensures .1 .grows _ e in
-    let R = room-after (a .k) (a .held) (now (a .near)) (now (a .d2s)) _ _ _ (st .pre .1 .2) L (u .kept .1 .1 .1 .1 .1 .1 .1 .1 .1 .1 .0) (u .kept .1 .1 .1 .1 .1 .1 .1 .1 .1 .1 .1 .0) in (
-      near-skip (branched t o) _ (u .ensures .0) _ (walked-held _ _ _ _ e) (skip-is (a .k) _ _ _ R _ _ true (c .before .passes2 .ensures) (c .if4 .taken)),
+    let R = room-after (a .k) (now (a .held)) (now (a .near)) (now (a .d2s)) _ _ _ (st .pre .1 .2) L (u .kept .1 .1 .1 .1 .1 .1 .1 .1 .1 .0) (u .kept .1 .1 .1 .1 .1 .1 .1 .1 .1 .1 .0) in (
+      near-skip (branched t o) _ (u .ensures .0) _ (walked-held _ _ _ _ e) (skip-is (a .k) _ _ _ R _ _ true (c .before .passes2 .ensures) (c .if5 .taken)),
       grew-held _ _ _ _ _ _ _ L,
     )
 
 knn-search-knn-search-requires-2 : (t : ℕ) → knn-search-lts.Need-knn-search-requires-2 (rs t) (knn-search-at t) knn-search.Post
 knn-search-knn-search-requires-2 t c κs =
-    let w = c .before .before .before .before .before .before .before .before .before .before .before .before in
-    let o = w .before .before .before in
-    let st = o .before .before .before .before .before .before .before .before .before .before .before .before .before .before .before .before .before .before .before in
+    let w = c .before .before .before .before .before .before .before .before .before .before .before in
+    let o = w .before .before .before .before in
+    let st = o .before .before .before .before .before .before .before .before .before .before .before .before .before .before .before .before .before .before .before .before in
     let a = st .args in
     let u = w .knn-search in
-    let e = c .before .before .before .before .before .before .n .given .1 in
+    let e = celled-held (u .result) _ (not-false (u .result) (c .before .before .before .before .before .before .if4 .left)) in
     let L = u .ensures .1 .grows _ e in
-    let R = room-after (a .k) (a .held) (now (a .near)) (now (a .d2s)) _ _ _ (st .pre .1 .2) L (u .kept .1 .1 .1 .1 .1 .1 .1 .1 .1 .1 .0) (u .kept .1 .1 .1 .1 .1 .1 .1 .1 .1 .1 .1 .0) in
+    let R = room-after (a .k) (now (a .held)) (now (a .near)) (now (a .d2s)) _ _ _ (st .pre .1 .2) L (u .kept .1 .1 .1 .1 .1 .1 .1 .1 .1 .0) (u .kept .1 .1 .1 .1 .1 .1 .1 .1 .1 .1 .0) in
     let b = ready (branched t o) in
     (omega (arith, b .far-less, st .pre .0), (b .far-some, b .far-sound, R))
 
@@ -275,16 +270,16 @@ knn-search-same-length-11 t c = search needs
 
 knn-search-returns-7 : (t : ℕ) → knn-search-lts.Need-returns-7 (rs t) (knn-search-at t) knn-search.Post
 knn-search-returns-7 t c =
-    let w = c .before .before .before .before .before .before .before .before .before .before .before .before .before .before .before .before .before in
-    let o = w .before .before .before in
-    let st = o .before .before .before .before .before .before .before .before .before .before .before .before .before .before .before .before .before .before .before in
+    let w = c .before .before .before .before .before .before .before .before .before .before .before .before .before .before .before .before in
+    let o = w .before .before .before .before in
+    let st = o .before .before .before .before .before .before .before .before .before .before .before .before .before .before .before .before .before .before .before .before in
     let a = st .args in
     let u = w .knn-search in
-    let e = c .before .before .before .before .before .before .before .before .before .before .before .n .given .1 in
+    let e = celled-held (u .result) _ (not-false (u .result) (c .before .before .before .before .before .before .before .before .before .before .before .if4 .left)) in
     let L = u .ensures .1 .grows _ e in
     let v = c .before .before .before .before .knn-search2 in (
       near-then (branched t o) _ (u .ensures .0) _ (walked-held _ _ _ _ e) _ (v .ensures .0),
-      grew-then (a .k) (a .held) _ (now (a .near)) _ _ (now (a .d2s)) _ _ _ L (v .ensures .1),
+      grew-then (a .k) (now (a .held)) _ (now (a .near)) _ _ (now (a .d2s)) _ _ _ L (v .ensures .1),
     )
 
 pub +knn-search-spec : {M : Type 1} → statement M
@@ -312,8 +307,6 @@ pub +knn-search-spec : {M : Type 1} → statement M
     (knn-search-ordered-children-requires t)
     (knn-search-in-turn-requires t)
     (knn-search-knn-search-requires t)
-    (knn-search-enum-known-n t)
-    (knn-search-enum-told t)
     (knn-search-same-length-6 t)
     (knn-search-same-length-7 t)
     (knn-search-returns-5 t)

@@ -21,12 +21,12 @@ use Rattle.k_nearest.proofs.scan_part.Statement.{statement}
 use Rattle.k_nearest.proofs.scan_part.Tie as tie
 
 abbrev Inv-loop : tie.InvT-loop
-Inv-loop points part q k held near₀ d2s₀ n₀ j₀ near d2s n j =
+Inv-loop points part q k near₀ d2s₀ held n₀ j₀ near d2s n j =
     (j ≤ length part) × (length near ≡ length near₀) × (length d2s ≡ length d2s₀) × Room k n near d2s × Larger k held near₀ d2s₀ n near d2s
     × (outcome (scan (size points) (holding k points q .next) 1 (heap-of held near₀ d2s₀) part) ≡ outcome (scan (size points) (holding k points q .next) 1 (heap-of n near d2s) (drop j part)))
 
 abbrev μ-loop : tie.MeasureT-loop
-μ-loop points part q k held near₀ d2s₀ n₀ j₀ near d2s n j = length part - j
+μ-loop points part q k near₀ d2s₀ held n₀ j₀ near d2s n j = length part - j
 
 loop-holds : tie.Need-loop-holds Inv-loop μ-loop
 loop-holds c = search needs
@@ -48,7 +48,7 @@ same-length-2 c = search needs
 
 returns : tie.Need-returns Inv-loop μ-loop
 returns c =
-    let s = c .before .before .before .before .before .before .before .before in
+    let s = c .before .before .before .before .before .before .before .before .before in
     let l = c .before .before .before .loop in
     let ps = now (s .args .points) in
     let Q = holding (s .args .k) ps (s .args .q) in
@@ -89,7 +89,7 @@ loop-less c = search needs
 
 loop-again : tie.Need-loop-again Inv-loop μ-loop
 loop-again c =
-    let s = c .before .before .before .before .before .before .before .before .before .before .before .before .before .before .before .before .before .before in
+    let s = c .before .before .before .before .before .before .before .before .before .before .before .before .before .before .before .before .before .before .before in
     let l = c .before .before .before .before .before .before .before .before .before .before .before .before .before .loop in
     let o = c .before .before .before .before .offer in
     let ps = now (s .args .points) in
@@ -100,7 +100,7 @@ loop-again c =
       o .kept .0 ∙ l .inv .1,
       o .kept .1 .0 ∙ l .inv .2,
       room-after (s .args .k) (l .n) (l .near) (l .d2s) _ _ _ (l .inv .3) L (o .kept .0) (o .kept .1 .0),
-      larger-then (s .args .k) (s .args .held) (now (s .args .near)) (now (s .args .d2s)) (l .n) _ (l .near) _ (l .d2s) _ (l .inv .4) L,
+      larger-then (s .args .k) (now (s .args .held)) (now (s .args .near)) (now (s .args .d2s)) (l .n) _ (l .near) _ (l .d2s) _ (l .inv .4) L,
       l .inv .5
           ∙ scan-in (size ps) (Q .next) 1 (heap-of (l .n) (l .near) (l .d2s)) is (l .j) (c .before .before .before .before .before .before .before .before .before .before .before .before .loop-test .taken) (c .before .before .before .before .before .before .before .before .before .before .if1 .left)
           ∙ ap (λ (z : List Best). outcome (scan (size ps) (Q .next) 1 z (drop (l .j + 1) is)))
@@ -115,7 +115,7 @@ same-length-4 c = search needs
 
 returns-2 : tie.Need-returns-2 Inv-loop μ-loop
 returns-2 c =
-    let s = c .before .before .before .before .before .before in
+    let s = c .before .before .before .before .before .before .before in
     let l = c .before .loop in
     let ps = now (s .args .points) in
     let Q = holding (s .args .k) ps (s .args .q) in
