@@ -12,7 +12,7 @@ use distance::Bounds;
 ghost use mathlib.Core.Path.{_≡_};
 ghost use mathlib.Core.Logic.{_⊎_};
 ghost use mathlib.Core.List.{_∷_, _++_};
-ghost use Prim.Native.Nat.{_+_, _-_, _*_, _/_, _^_, _<_, _≤_};
+ghost use Prim.Native.Nat.{_/_, _^_, _<_, _≤_};
 ghost use lib.ListN.{length, drop};
 ghost use Rattle.distance.specs.Distance.{larger};
 ghost use Rattle.tree.specs.Accepted.{tree};

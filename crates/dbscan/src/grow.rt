@@ -3,11 +3,11 @@
 use labels::NOISE;
 use search::Found;
 ghost use mathlib.Core.Path.{_≡_};
-ghost use Prim.Native.Nat.{ℕ, _+_, _*_, _/_, _≤_, _<_};
-ghost use lib.ListN.{length, getD, take, replicate};
+ghost use Prim.Native.Nat.{_+_};
+ghost use lib.ListN.{length, take, replicate};
 ghost use Rattle.tree.specs.Points.{size};
 ghost use Rattle.tree.specs.Accepted.{tree};
-ghost use Rattle.labels.specs.Labels.{noise, near};
+ghost use Rattle.labels.specs.Labels.{near};
 ghost use Rattle.dbscan.specs.Growing.{Between, Growing, held, claim, claim-all, Filled, Claimable, Roomy, Asked, Visitable, Startable, Turnable, Runnable, Ran};
 
 // The neighbours of point i, rising, into the front of out; and how many they are. There is room for all points, so the

@@ -7,14 +7,14 @@ use mathlib.Core.Bool.{Bool, true, false, cond}
 use Prim.Native.Nat.{ℕ, zero, suc, _+_, _-_, _≤_, _<_}
 use native.Mathlib.Numerals.{add-one}
 use native.Mathlib.Omega.{arith}
-use lib.Ieee.{Float, lt, le}
+use lib.Ieee.{Float, lt}
 use lib.ListN.{length, getD, drop, drop-of-length-le}
 use lib.Seq.{drop-cons}
 use borrow.Author.Tests.{lt-ltb, le-ltb}
 use types.Run.{OneOf}
 use denote.Enum.Declared.{tagOf}
 use Rattle.tree.proofs.Kind as K
-use Rattle.distance.specs.Distance.{bound, centre}
+use Rattle.distance.specs.Distance.{bound}
 use Rattle.distance.specs.declared.Bounds.{Bounds}
 use Rattle.distance.specs.declared.Coord.{Coord}
 use Rattle.tree.specs.Node.{bounds, kind, mid, part}
@@ -120,12 +120,6 @@ module _ {S : Type 0} (t : Tree) (Q : Search S) (v a e : ℕ) (s : S) where
           U f (omega (arith, size))
           ∙ sym (at-branch false h f ∙ then-found (walk t Q f r (mid a e) e s) (walk t Q f l a (mid a e)) s' (sym g ∙ W f (omega (arith, size))))
 
--- ---- what the code worked out: the bound against a limit, and the two centres
+-- ---- what the code worked out: the bound against a limit
 pub far-is : (q : Coord) (d : Float) (boxes : List Float) (v : ℕ) (b : Bounds) (w : Float) (z : Bool) → b ≡ bounds boxes v → w ≡ bound q b → lt d w ≡ z → lt d (bound q (bounds boxes v)) ≡ z
 far-is q d boxes v b w z e f h = ap (λ (c : Bounds). lt d (bound q c)) (sym e) ∙ ap (λ (x : Float). lt d x) (sym f) ∙ h
-
-pub order-is : (q : Coord) (boxes : List Float) (l r : ℕ) (b c : Bounds) (x y : Float) (z : Bool) → b ≡ bounds boxes l → c ≡ bounds boxes r → x ≡ centre q b → y ≡ centre q c → le x y ≡ z
-    → le (centre q (bounds boxes l)) (centre q (bounds boxes r)) ≡ z
-order-is q boxes l r b c x y z e f g k h =
-    ap (λ (w : Bounds). le (centre q w) (centre q (bounds boxes r))) (sym e) ∙ ap (λ (w : Bounds). le (centre q b) (centre q w)) (sym f)
-    ∙ ap (λ (w : Float). le w (centre q c)) (sym g) ∙ ap (λ (w : Float). le x w) (sym k) ∙ h

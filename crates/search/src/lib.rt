@@ -3,7 +3,7 @@
 use distance::Coord;
 ghost use mathlib.Core.Path.{_≡_};
 ghost use mathlib.Core.Bool.{cond};
-ghost use Prim.Native.Nat.{_+_, _*_, _<_, _≤_};
+ghost use Prim.Native.Nat.{_+_, _*_, _≤_};
 ghost use lib.ListN.{length};
 ghost use Rattle.distance.specs.Distance.{bound};
 ghost use Rattle.tree.specs.Node.{bounds};

@@ -3,7 +3,7 @@
 ghost use mathlib.Core.Path.{_≡_};
 ghost use mathlib.Core.Bool.{false};
 ghost use Prim.Native.Nat.{_-_, _≤_};
-ghost use lib.ListN.{length, take, drop};
+ghost use lib.ListN.{length};
 ghost use Rattle.stream.specs.Feeding.{Ready};
 ghost use Rattle.serve.specs.Good.{Good, Slid};
 use libc::STDIN_FILENO;

@@ -1,7 +1,7 @@
 // A tree over points, in slices that the caller lends: six floats a node in `boxes` (centre x, centre y, min x, max x,
 // min y, max y), four numbers a node in `links` (start, end, left, right), and the points' indices. Here a node is read,
 // the indices under it are handed back, the first point that is not finite is found, and the nodes that a tree needs are
-// counted; nothing is asked of the slices, whoever made them.
+// counted; nothing is asked of the slices, whoever made them. `kind_of` and `bounds_of` read a node that was found sound.
 use distance::Bounds;
 ghost use mathlib.Core.Path.{_≡_};
 ghost use Prim.Native.Nat.{_+_, _-_, _*_, _^_, _<_, _≤_};
