@@ -4,9 +4,9 @@
 -- corner is within, so each of its points is one. Assumes nothing.
 use mathlib.Core.Path.{_≡_, refl, sym, ap, _∙_, subst}
 use mathlib.Core.Logic.{_⊎_, inl, inr}
-use mathlib.Core.Bool.{Bool, true, false, not, _&&_, cond}
+use mathlib.Core.Bool.{Bool, true, false, not, cond}
 use mathlib.Core.List.{List, [], _∷_, _++_}
-use Prim.Native.Nat.{ℕ, zero, suc, _+_, _*_, _%_, _<_}
+use Prim.Native.Nat.{ℕ, zero, suc, _+_, _*_, _<_}
 use native.Mathlib.Omega.{arith}
 use lib.Dec.{T, ltb, eqb}
 use lib.Ieee.{Float, nan, inf, fin, binary64, ofBits, up, down, mul, le, isNan}
@@ -18,7 +18,7 @@ use Rattle.distance.specs.declared.Coord.{Coord}
 use Rattle.distance.proofs.Order.{lt-is-not-le, nonneg-no-nan}
 use Rattle.distance.proofs.Mono.{nonneg, round-nonneg, le-top, d2-nonneg}
 use Rattle.distance.proofs.Corner.{corner-within}
-use Rattle.tree.specs.Points.{limit, size, x, y}
+use Rattle.tree.specs.Points.{x, y}
 use Rattle.tree.specs.Accepted.{Tree, count, Grown, Accepted, times}
 use Rattle.rising.specs.Sort.{insert}
 use Rattle.rising.proofs.Sorting.{All, Rises, insert-rises}
@@ -26,6 +26,7 @@ use Rattle.search.specs.Walk.{Walk, done, got, outcome, walk-all, plain}
 use Rattle.search.specs.Order.{point}
 use Rattle.search.specs.Refusal.{refusal, Told, told}
 use Rattle.search.specs.declared.Found.{Found}
+use Rattle.search.proofs.Unrefused.{refusal-finite}
 use Rattle.search.proofs.Insert.{ins, ins-comm}
 use Rattle.search.proofs.Rank.{no-nan, point-good, far-point}
 use Rattle.search.proofs.Whole.{Fair, Ends, walk-is-plain}
@@ -168,16 +169,6 @@ sq-nonneg (fin true m e) h = round-nonneg binary64 (m * up e * (m * up e)) (down
 sq-nonneg (fin false m e) h = round-nonneg binary64 (m * up e * (m * up e)) (down e * down e)
 
 -- ---- the theorem
-refusal-finite : (points : List Float) (q : Coord) → refusal points q ≡ 0 → T (finite (q .x)) × T (finite (q .y))
-refusal-finite points q h = go (eqb (length points % 2) 1) (ltb limit (size points)) (finite (q .x)) (finite (q .y)) h
-  where
-    go : (a b c d : Bool) → _≡_ {A = ℕ} (cond a 1 (cond b 2 (cond (c && d) 0 4))) 0 → T c × T d
-    go true b c d h = absurd (omega arith)
-    go false true c d h = absurd (omega arith)
-    go false false true true h = (tt, tt)
-    go false false true false h = absurd (omega arith)
-    go false false false d h = absurd (omega arith)
-
 module _ (t : Tree) (q : Coord) (radius : Float) (A : Accepted t) (e : refusal (t .points) q ≡ 0) (f : le (ofBits binary64 0) radius ≡ true) where
   -- the number of a point is a hit's
   abbrev pub hit : ℕ → Bool

@@ -7,6 +7,7 @@ pub mod Rank
 pub mod Own
 pub mod Steps
 pub mod Turning
+pub mod Unrefused
 pub mod Fronts
 pub mod Written
 pub mod Answered

@@ -27,7 +27,8 @@ use Rattle.radius.specs.Within as w
 use Rattle.radius.specs.Within.{within, Reply, reply, reply-of, finds, refuses, squares, RootsInFront, WithDistances}
 use Rattle.radius.proofs.Scan.{picked, picked-below, radius-is-scan}
 use Rattle.stream.specs.Prints.{radius-scan}
-use Rattle.stream.proofs.Nearby.{point-unsigned, refusal-finite}
+use Rattle.search.proofs.Unrefused.{refusal-finite}
+use Rattle.stream.proofs.Nearby.{point-unsigned}
 use Rattle.stream.proofs.Listing.{Unsigned}
 
 passing-more : (p : ℕ → Bool) (n : ℕ) (b : Bool) → passing p n ≡ picked p n → passing p n ++ cond b (n ∷ []) [] ≡ cond b (picked p n ++ (n ∷ [])) (picked p n)

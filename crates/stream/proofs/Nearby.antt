@@ -1,11 +1,11 @@
 -- What a nearest query prints: the answer over an accepted tree is the scan's, and its distance, a root of a d2 of finite
 -- points, is no NaN. Assumes nothing.
-use Prim.Native.Nat.{ℕ, _%_, _≤_, _<_, _*_, _+_}
+use Prim.Native.Nat.{ℕ, _≤_, _<_, _*_, _+_}
 use mathlib.Core.Path.{_≡_, refl, ap, sym, subst}
 use mathlib.Core.List.{List, [], _∷_}
-use mathlib.Core.Bool.{Bool, true, false, not, _&&_, cond}
+use mathlib.Core.Bool.{Bool, true, false, not, cond}
 use native.Mathlib.Omega.{arith}
-use lib.Dec.{T, eqb, ltb}
+use lib.Dec.{T, eqb}
 use lib.ListN.{length, getD}
 use lib.Ieee.{Float, nan, inf, fin, isNan}
 use lib.Ieee.Scale.{finite}
@@ -14,8 +14,8 @@ use Rattle.distance.specs.declared.Coord.{Coord}
 use Rattle.distance.proofs.Mono.{nonneg, d2-nonneg}
 use Rattle.root.specs.Root.{Root}
 use Rattle.root.proofs.NoNan.{unsigned, root-no-nan}
-use Rattle.tree.specs.Points.{limit, size}
 use Rattle.tree.specs.Accepted.{Tree, tree, count, Accepted}
+use Rattle.search.proofs.Unrefused.{refusal-finite}
 use Rattle.search.specs.Walk.{plain}
 use Rattle.search.specs.Order.{point}
 use Rattle.search.specs.Refusal.{refusal}
@@ -38,21 +38,6 @@ pub point-unsigned : (t : Tree) (q : Coord) (i : ℕ) → Accepted t → T (fini
 point-unsigned t q i A X Y h =
     unsigned-nonneg (point (t .points) q i .d2)
     (d2-nonneg (q .x) (q .y) (getD (t .points) (2 * i) nan) (getD (t .points) (2 * i + 1) nan) X Y (A .all-finite (2 * i) (omega arith)) (A .all-finite (2 * i + 1) (omega arith)))
-
-both : (a b : Bool) → (a && b) ≡ true → T a × T b
-both true true e = (tt, tt)
-both true false e = absurd (subst T (sym e) tt)
-both false b e = absurd (subst T (sym e) tt)
-
--- a query that is not refused stands at a finite place
-pub refusal-finite : (points : List Float) (q : Coord) → refusal points q ≡ 0 → T (finite (q .x)) × T (finite (q .y))
-refusal-finite points q e = both (finite (q .x)) (finite (q .y)) (go (eqb (length points % 2) 1) (ltb limit (size points)) (finite (q .x) && finite (q .y)) refl e)
-  where
-    go : (a b c : Bool) → finite (q .x) && finite (q .y) ≡ c → _≡_ {A = ℕ} (cond a 1 (cond b 2 (cond c 0 4))) 0 → finite (q .x) && finite (q .y) ≡ true
-    go true b c f h = absurd (omega arith)
-    go false true c f h = absurd (omega arith)
-    go false false true f h = f
-    go false false false f h = absurd (omega arith)
 
 answered-passes : (t : Tree) (q : Coord) → answered-by (near-scan t q) ≡ true → refusal (t .points) q ≡ 0
 answered-passes t q e = go (eqb (refusal (t .points) q) 0) refl e

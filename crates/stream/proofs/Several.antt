@@ -18,7 +18,8 @@ use Rattle.k_nearest.specs.Scan.{nearest-k}
 use Rattle.k_nearest.specs.Query.{answer, scan-answer}
 use Rattle.k_nearest.proofs.Promise.{k-nearest-is-scan, hits-own}
 use Rattle.stream.specs.Prints.{Replied}
-use Rattle.stream.proofs.Nearby.{point-unsigned, refusal-finite}
+use Rattle.search.proofs.Unrefused.{refusal-finite}
+use Rattle.stream.proofs.Nearby.{point-unsigned}
 use Rattle.stream.proofs.Listing.{Unsigned}
 
 pub scan-room : (points : List Float) (q : Coord) (k room : ℕ) → size points ≤ room → scan-answer points q k room ≡ scan-answer points q k (size points)
