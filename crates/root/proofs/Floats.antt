@@ -192,8 +192,8 @@ module _ (x : Float) (f : T (fits binary64 x)) where
   pub root-infinity : toBits binary64 x ≡ infinity → Root x x
   root-infinity e = its-own infinity e own-infinity
 
-  pub root-positive : (c : ℕ) → (toBits binary64 x ≡ 0 → ⊥) → toBits binary64 x < infinity → RootBits (toBits binary64 x) c → Root x (ofBits binary64 c)
-  root-positive c n h t = subst (λ (y : Float). Root y (ofBits binary64 c)) (ofBits-toBits binary64 x f) (root-at (toBits binary64 x) c (omega (arith, n)) h t)
+  pub root-positive : (c : ℕ) → 0 < toBits binary64 x → toBits binary64 x < infinity → RootBits (toBits binary64 x) c → Root x (ofBits binary64 c)
+  root-positive c n h t = subst (λ (y : Float). Root y (ofBits binary64 c)) (ofBits-toBits binary64 x f) (root-at (toBits binary64 x) c n h t)
 
   pub root-none : (toBits binary64 x ≡ sign → ⊥) → (toBits binary64 x ≡ infinity → ⊥) → infinity ≤ toBits binary64 x → Root x nan
   root-none n m h = subst (λ (y : Float). Root y nan) (ofBits-toBits binary64 x f) (no-root (toBits binary64 x) (omega (arith, m)) n (toBits-lt binary64 x f))

@@ -1,9 +1,9 @@
 -- The steps of `scale`: the digits of a pattern, 53 of them, and the exponent of what is left; those of a subnormal are
 -- moved up, which a shift by at most 52 places does exactly; and a power of two that is a square, an odd one giving a factor
 -- of two to the digits. Assumes nothing.
-use mathlib.Core.Path.{_≡_, sym, ap, _∙_, subst}
-use Prim.Native.Nat.{ℕ, suc, _+_, _-_, _*_, _/_, _%_, _^_, _≤_, _<_}
-use native.Mathlib.Nat.{mul-le-mul-right, mul-assoc, lt-of-not-le, not-le-of-lt, lt-of-lt-of-le, le-trans, mul-one, pow-succ'}
+use mathlib.Core.Path.{_≡_, refl, sym, ap, _∙_, subst}
+use Prim.Native.Nat.{ℕ, zero, suc, _+_, _-_, _*_, _/_, _%_, _^_, _≤_, _<_}
+use native.Mathlib.Nat.{mul-le-mul-left, mul-le-mul-right, mul-assoc, lt-of-not-le, not-le-of-lt, lt-of-lt-of-le, le-trans, mul-one, pow-succ'}
 use native.Mathlib.Omega.{arith}
 use lib.Pow.{pow-add, pow-mono, shl-lt, shl-exact}
 use lib.Count.{leadingZeros, leading-top}
@@ -80,24 +80,31 @@ moved b p s =
     }
 
 -- ---- the exponent, halved
-module _ (b d e : ℕ) (f : Full b d e) where
-  pub splits-even : (e % 2 ≡ 1 → ⊥) → Splits b d (e / 2)
-  splits-even h = record {
-    equal = f .equal ∙ ap (λ (x : ℕ). d * lead * x) (even-power e h);
-    low = f .low;
-    high = omega (arith, f .high);
-    h-low = omega (arith, f .e-low);
-    h-high = omega (arith, f .e-high);
-  }
+pub doubled : (d e : ℕ) → (d ≤ d * (1 + e % 2)) × (d * (1 + e % 2) ≤ 2 * d)
+doubled d e =
+    let l : 1 ≤ 1 + e % 2 = omega arith in
+    let k : 1 + e % 2 ≤ 2 = omega arith in
+    (omega (arith, mul-le-mul-left d l), omega (arith, mul-le-mul-left d k))
 
-  pub splits-odd : e % 2 ≡ 1 → Splits b (d * 2) (e / 2)
-  splits-odd h = record {
-    equal = f .equal ∙ ap (λ (x : ℕ). d * lead * x) (odd-power e h) ∙ twice d (2 ^ (e / 2) * 2 ^ (e / 2));
-    low = omega (arith, f .low);
-    high = omega (arith, f .high);
-    h-low = omega (arith, f .e-low);
-    h-high = omega (arith, f .e-high);
-  }
-    where
-      twice : (n p : ℕ) → n * lead * (2 * p) ≡ n * 2 * lead * p
-      twice n p = omega arith
+even-or-odd : (d e : ℕ) → d * lead * 2 ^ e ≡ d * (1 + e % 2) * lead * (2 ^ (e / 2) * 2 ^ (e / 2))
+even-or-odd d e = go (e % 2) refl
+  where
+    go : (o : ℕ) → e % 2 ≡ o → d * lead * 2 ^ e ≡ d * (1 + o) * lead * (2 ^ (e / 2) * 2 ^ (e / 2))
+    go zero h = rw (even-power e (omega arith)) (omega arith)
+    go (suc zero) h = rw (odd-power e h) (twice d (2 ^ (e / 2) * 2 ^ (e / 2)))
+      where
+        twice : (n p : ℕ) → n * lead * (2 * p) ≡ n * (1 + 1) * lead * p
+        twice n p = omega arith
+    go (suc (suc o)) h = absurd (never (omega arith))
+      where
+        never : e % 2 < e % 2 → ⊥
+        never l = omega arith
+
+pub splits : (b d e : ℕ) → Full b d e → Splits b (d * (1 + e % 2)) (e / 2)
+splits b d e f = record {
+  equal = f .equal ∙ even-or-odd d e;
+  low = omega (arith, f .low, doubled d e .0);
+  high = omega (arith, f .high, doubled d e .1);
+  h-low = omega (arith, f .e-low);
+  h-high = omega (arith, f .e-high);
+}

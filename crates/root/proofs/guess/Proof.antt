@@ -5,9 +5,6 @@ use Rattle.root.proofs.Floats.{pattern-no-nan, not-nan}
 use Rattle.root.proofs.guess.Statement.{statement}
 use Rattle.root.proofs.guess.Tie as tie
 
-pattern-requires : tie.Need-pattern-requires
-pattern-requires c κs = search needs
-
 float-from-bits-f : tie.Need-float-from-bits-f
 float-from-bits-f c = pattern-no-nan _ (omega arith)
 
@@ -29,35 +26,8 @@ mul-result c = search needs
 rem-result : tie.Need-rem-result
 rem-result c = search needs
 
-mul-result-2 : tie.Need-mul-result-2
-mul-result-2 c = search needs
-
-add-result : tie.Need-add-result
-add-result c = search needs
-
-mul-result-3 : tie.Need-mul-result-3
-mul-result-3 c = search needs
-
-rem-result-2 : tie.Need-rem-result-2
-rem-result-2 c = search needs
-
 returns-2 : tie.Need-returns-2
 returns-2 c = search needs
 
 pub guess-spec : {M : Type 1} → statement M
-guess-spec =
-    tie.close
-    (tie.spec
-    pattern-requires
-    float-from-bits-f
-    sub-w
-    float-from-bits-w
-    returns
-    float-to-bits-result
-    mul-result
-    rem-result
-    mul-result-2
-    add-result
-    mul-result-3
-    rem-result-2
-    returns-2)
+guess-spec = tie.close (tie.spec float-from-bits-f sub-w float-from-bits-w returns float-to-bits-result mul-result rem-result returns-2)

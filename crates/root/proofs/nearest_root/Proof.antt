@@ -1,92 +1,62 @@
--- `root::nearest_root` meets its contract. The first loop leaves no s that is too small, the second none that is too large:
--- `Squares.antt`. How good the guess is plays no part. Assumes nothing.
-use Prim.Native.Nat.{_-_, _*_, _<_}
+-- `root::nearest_root` meets its contract: `digits`, `rounds-here` and `rounds-next` of `Squares.antt`. Assumes nothing.
+use Prim.Native.Nat.{_*_, _/_, _%_}
 use native.Mathlib.Omega.{arith}
 use borrow.Author.Needs.{needs}
-use Rattle.root.specs.Steps.{lead}
-use Rattle.root.proofs.Squares.{climbs, Reached, reached, rounds}
+use Rattle.root.specs.Steps.{half}
+use Rattle.root.proofs.Squares.{Digits, digits, rounds-here, rounds-next}
 use Rattle.root.proofs.nearest_root.Statement.{statement}
 use Rattle.root.proofs.nearest_root.Tie as tie
 
-abbrev Inv-loop : tie.InvT-loop
-Inv-loop a s₀ s = s < 4 * lead
-
-abbrev μ-loop : tie.MeasureT-loop
-μ-loop a s₀ s = 4 * lead - s
-
-abbrev Inv-loop2 : tie.InvT-loop2
-Inv-loop2 a s₀ s = Reached a s
-
-abbrev μ-loop2 : tie.MeasureT-loop2
-μ-loop2 a s₀ s = s
-
-guess-requires : tie.Need-guess-requires Inv-loop μ-loop Inv-loop2 μ-loop2
+guess-requires : tie.Need-guess-requires
 guess-requires c κs = search needs
 
-loop-holds : tie.Need-loop-holds Inv-loop μ-loop Inv-loop2 μ-loop2
-loop-holds c = search needs
+cut-root-requires : tie.Need-cut-root-requires
+cut-root-requires c κs = search needs
 
-reach-requires : tie.Need-reach-requires Inv-loop μ-loop Inv-loop2 μ-loop2
-reach-requires c κs = search needs
+-- what is known once the root is cut
+known : (c : tie.After-cut-root)
+    → Digits (c .before .before .args .a) (c .cut-root .result .g) (c .cut-root .result .rest) (c .cut-root .result .rest * (half / 2) / c .cut-root .result .g) (c .cut-root .result .rest * (half / 2) % c .cut-root .result .g)
+known c = let s = c .before .before in digits (s .args .a) (c .cut-root .result .g) (c .cut-root .result .rest) (s .pre .0) (s .pre .1) (c .cut-root .ensures)
 
-add-s : tie.Need-add-s Inv-loop μ-loop Inv-loop2 μ-loop2
-add-s c = search needs
+mul-t : tie.Need-mul-t
+mul-t c = let d = known (c .before) in record { fits = omega (arith, d .cut .small, d .g-high) }
 
-loop-less : tie.Need-loop-less Inv-loop μ-loop Inv-loop2 μ-loop2
-loop-less c = search needs
+div-q : tie.Need-div-q
+div-q c = let d = known (c .before) in omega (arith, d .g-low)
 
-loop-again : tie.Need-loop-again Inv-loop μ-loop Inv-loop2 μ-loop2
-loop-again c =
-    let d = c .before .before in
-    omega (arith, climbs (d .before .before .args .a) (d .loop .s) (c .before .reach .result) (d .before .before .pre .1) (c .before .reach .ensures) (omega arith))
+rem-u : tie.Need-rem-u
+rem-u c = let d = known (c .before) in omega (arith, d .g-low)
 
-loop2-holds : tie.Need-loop2-holds Inv-loop μ-loop Inv-loop2 μ-loop2
-loop2-holds c =
-    let d = c .before .before in
-    reached (d .before .before .args .a) (d .loop .s) (c .before .reach .result) (d .before .before .pre .0) (d .loop .inv) (c .before .reach .ensures) (omega arith)
+mul-s : tie.Need-mul-s
+mul-s c = let d = known (c .before) in record { fits = omega (arith, d .g-high) }
 
-sub-reach : tie.Need-sub-reach Inv-loop μ-loop Inv-loop2 μ-loop2
-sub-reach c = search needs
+add-s : tie.Need-add-s
+add-s c = let d = known (c .before) in record { fits = omega (arith, d .g-high, d .q-high) }
 
-reach-requires-2 : tie.Need-reach-requires-2 Inv-loop μ-loop Inv-loop2 μ-loop2
-reach-requires-2 c κs = search needs
+mul-if1 : tie.Need-mul-if1
+mul-if1 c = search needs
 
-sub-s : tie.Need-sub-s Inv-loop μ-loop Inv-loop2 μ-loop2
-sub-s c = search needs
+mul-if1-2 : tie.Need-mul-if1-2
+mul-if1-2 c = let d = known (c .before) in record { fits = omega (arith, d .under, d .g-high) }
 
-loop2-less : tie.Need-loop2-less Inv-loop μ-loop Inv-loop2 μ-loop2
-loop2-less c = search needs
+mul-if1-3 : tie.Need-mul-if1-3
+mul-if1-3 c = let d = known (c .before) in record { fits = omega (arith, d .q-square, d .q-high) }
 
-loop2-again : tie.Need-loop2-again Inv-loop μ-loop Inv-loop2 μ-loop2
-loop2-again c =
-    let d = c .before .before in
-    let t = d .before .before .before .before .before in
-    reached (t .args .a) (d .loop2 .s - 1) (c .before .reach2 .result) (t .pre .0) (omega (arith, d .loop2 .inv .high)) (c .before .reach2 .ensures) (omega arith)
+add-if1 : tie.Need-add-if1
+add-if1 c = let d = known (c .before) in record { fits = omega (arith, d .g-high, d .q-square, d .q-high) }
 
-returns : tie.Need-returns Inv-loop μ-loop Inv-loop2 μ-loop2
+add-result : tie.Need-add-result
+add-result c = let d = known (c .before .before) in record { fits = omega (arith, d .g-high, d .q-high) }
+
+returns : tie.Need-returns
 returns c =
-    let d = c .before .before in
-    let t = d .before .before .before .before .before in
-    rounds (t .args .a) (d .loop2 .s) (c .before .reach2 .result) (t .pre .1) (d .loop2 .inv) (c .before .reach2 .ensures) (omega arith)
+    let k = c .before .before in
+    rounds-next (k .before .before .args .a) (k .cut-root .result .g) (k .cut-root .result .rest) _ _ (k .before .before .pre .1) (known k) (c .if1 .taken)
+
+returns-2 : tie.Need-returns-2
+returns-2 c =
+    let k = c .before .before in
+    rounds-here (k .before .before .args .a) (k .cut-root .result .g) (k .cut-root .result .rest) _ _ (k .before .before .pre .1) (known k) (c .if1 .left)
 
 pub nearest-root-spec : {M : Type 1} → statement M
-nearest-root-spec =
-    tie.close
-    (tie.spec
-    Inv-loop
-    μ-loop
-    Inv-loop2
-    μ-loop2
-    guess-requires
-    loop-holds
-    reach-requires
-    add-s
-    loop-less
-    loop-again
-    loop2-holds
-    sub-reach
-    reach-requires-2
-    sub-s
-    loop2-less
-    loop2-again
-    returns)
+nearest-root-spec = tie.close (tie.spec guess-requires cut-root-requires mul-t div-q rem-u mul-s add-s mul-if1 mul-if1-2 mul-if1-3 add-if1 add-result returns returns-2)

@@ -19,7 +19,7 @@ add-result c = search needs
 returns : tie.Need-returns
 returns c =
     let p = c .before .before .scale in
-    root-bits (c .before .before .before .args .b) (p .result .a) (p .result .h) (c .nearest-root .result) (p .ensures) (c .nearest-root .ensures)
+    root-bits (c .before .before .before .args .b) (p .result .a) (p .result .h) (c .nearest-root .result) (p .ensures .0) (c .nearest-root .ensures)
 
 pub root-bits-spec : {M : Type 1} → statement M
 root-bits-spec = tie.close (tie.spec scale-requires mul-result nearest-root-requires add-result returns)

@@ -4,8 +4,7 @@ use mathlib.Core.Logic.{⊎-elim}
 use Prim.Native.Nat.{ℕ}
 use native.Mathlib.Omega.{arith}
 use borrow.Author.Needs.{needs}
-use Rattle.root.specs.Steps.{Splits}
-use Rattle.root.proofs.Scaling.{Full, full-high, Moved, moved, splits-even, splits-odd}
+use Rattle.root.proofs.Scaling.{Full, full-high, Moved, moved, doubled, splits}
 use Rattle.root.proofs.scale.Statement.{statement}
 use Rattle.root.proofs.scale.Tie as tie
 
@@ -46,18 +45,26 @@ known c =
     (λ w. full-is (full-high (s .args .b) (omega (arith, w .0 .left)) (s .pre .1)) (w .1) (w .2))
     (c .if1 .came)
 
-mul-a : tie.Need-mul-a
-mul-a c = let f = known (c .before .before .before) in omega (arith, f .high)
+add-t6 : tie.Need-add-t6
+add-t6 c = search needs
 
-splits-is : {b a a' h : ℕ} → Splits b a h → a' ≡ a → Splits b a' h
-splits-is s e = rw e s
+mul-t10 : tie.Need-mul-t10
+mul-t10 c = let j = c .before .before in record { fits = omega (arith, doubled (j .if1 .full) (j .if1 .e) .1, known j .high) }
+
+add-t12 : tie.Need-add-t12
+add-t12 c = search needs
+
+mul-t13 : tie.Need-mul-t13
+mul-t13 c = search needs
+
+add-t14 : tie.Need-add-t14
+add-t14 c = let f = known (c .before .before) in omega (arith, f .high)
 
 returns : tie.Need-returns
 returns c =
     let j = c .before .before in
-    let split-odd = splits-odd (j .before .args .b) (j .if1 .full) (j .if1 .e) (known j) in
-    let split-even = splits-even (j .before .args .b) (j .if1 .full) (j .if1 .e) (known j) in
-    ⊎-elim (λ w. splits-is (split-odd (w .0 .taken)) (w .2)) (λ w. splits-is (split-even (w .0 .left)) (w .1)) (c .if2 .came)
+    let f = known j in
+    (splits (j .before .args .b) (j .if1 .full) (j .if1 .e) f, omega (arith, f .high))
 
 pub scale-spec : {M : Type 1} → statement M
-scale-spec = tie.close (tie.spec add-full add-e sub-z cast-full shl-full cast-e sub-e mul-a returns)
+scale-spec = tie.close (tie.spec add-full add-e sub-z cast-full shl-full cast-e sub-e add-t6 mul-t10 add-t12 mul-t13 add-t14 returns)
