@@ -89,7 +89,7 @@ fn nn_search(
         return false;
     }
     let first = search::ordered_children(boxes, left, right, q);
-    let t = search::in_turn(first, left, right, start, mid, end);
+    let t = search::in_turn_by_jump(first, left, right, start, mid, end);
     if !nn_search(
         points,
         indices,
