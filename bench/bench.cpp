@@ -3,7 +3,7 @@
  *   bench [quick] [labels-command ..]
  *
  * Each time is CPU time of the process, the best of several turns; in a turn the three run one after the other, so that a
- * busy machine is busy for all of them. The three are compiled for plain x86-64. Their answers are added up and held
+ * busy machine is busy for all of them, and a ratio is the middle one of the turns' ratios. The three are compiled for plain x86-64. Their answers are added up and held
  * against each other, so that none is optimised away or wrong unseen. A labels-command is run as `COMMAND FILE EPSILON
  * MIN_SAMPLES` over a file of points (x, y as doubles) and prints its CPU seconds and the number of labelled points.
  */
@@ -128,6 +128,7 @@ bool odd_sums = false;
 struct Line {
     std::string what;
     double ours, geo, nano; /* seconds, below 0 where there is none */
+    double geo_ratio, nano_ratio; /* the middle one of the turns' ratios: in a turn the machine is as busy for all */
 };
 
 void print(const Line &l, double per, const char *unit)
@@ -139,8 +140,8 @@ void print(const Line &l, double per, const char *unit)
         return v < 0 ? std::string("-") : std::string(text);
     };
     auto time = [&](double t) { return shown("%.4g", t * scale); };
-    auto ratio = [&](double t) { return shown("%.2f", t / l.ours); };
-    printf("| %s | %s | %s | %s | %s | %s | %s |\n", l.what.c_str(), unit, time(l.ours).c_str(), time(l.geo).c_str(), time(l.nano).c_str(), ratio(l.geo).c_str(), ratio(l.nano).c_str());
+    auto ratio = [&](double r) { return shown("%.2f", r); };
+    printf("| %s | %s | %s | %s | %s | %s | %s |\n", l.what.c_str(), unit, time(l.ours).c_str(), time(l.geo).c_str(), time(l.nano).c_str(), ratio(l.geo_ratio).c_str(), ratio(l.nano_ratio).c_str());
     fflush(stdout);
 }
 
@@ -164,6 +165,12 @@ double once(const Side &s, double *sum)
     return t;
 }
 
+double middle(std::vector<double> values)
+{
+    std::nth_element(values.begin(), values.begin() + values.size() / 2, values.end());
+    return values[values.size() / 2];
+}
+
 /* More turns where one is short. */
 int turns(size_t n)
 {
@@ -172,16 +179,26 @@ int turns(size_t n)
 
 Line best(const std::string &what, const Side &ours, const Side &geo, const Side &nano, int how_often)
 {
-    Line l = {what, 1e99, geo.work ? 1e99 : -1, nano.work ? 1e99 : -1};
+    Line l = {what, 1e99, geo.work ? 1e99 : -1, nano.work ? 1e99 : -1, -1, -1};
+    std::vector<double> to_geo, to_nano;
     double a = 0, b = 0, c = 0;
     for (int i = 0; i < how_often; i++) {
-        l.ours = std::min(l.ours, once(ours, &a));
+        double mine = once(ours, &a), other;
+        l.ours = std::min(l.ours, mine);
         b = c = a;
-        if (geo.work)
-            l.geo = std::min(l.geo, once(geo, &b));
-        if (nano.work)
-            l.nano = std::min(l.nano, once(nano, &c));
+        if (geo.work) {
+            l.geo = std::min(l.geo, other = once(geo, &b));
+            to_geo.push_back(other / mine);
+        }
+        if (nano.work) {
+            l.nano = std::min(l.nano, other = once(nano, &c));
+            to_nano.push_back(other / mine);
+        }
     }
+    if (geo.work)
+        l.geo_ratio = middle(to_geo);
+    if (nano.work)
+        l.nano_ratio = middle(to_nano);
     if (std::fabs(a - b) > 1e-9 * std::fabs(a) || std::fabs(a - c) > 1e-9 * std::fabs(a)) {
         fprintf(stderr, "bench: %s: sums %.17g (this library), %.17g (original), %.17g (nanoflann)\n", what.c_str(), a, b, c);
         odd_sums = true;

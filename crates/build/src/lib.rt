@@ -6,7 +6,7 @@
 // One tree for one map, whatever the order of its points: only the order of the indices inside a leaf and the centres are
 // left free. Time grows as n log n on every input; nothing is used beyond the slices and the stack of 20 calls. 1,048,576
 // uniform points take 150 ms; sorted, reversed, equal, organ pipe, few values, and an order played against `select`
-// itself take from half of that to a twentieth more.
+// itself took from half of that to four tenths more.
 // Where a row of the refusals applies, the answer says which, and no slice is touched.
 use distance::Bounds;
 ghost use mathlib.Core.Path.{_≡_};
