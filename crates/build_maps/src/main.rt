@@ -11,7 +11,7 @@ fn main() {
     let mut indices = [0u32; 512];
     let mut boxes = [0.0; 1536];
     let mut links = [0u32; 1024];
-    maps::print_all(
+    let _ = maps::print_all(
         &text[..n],
         &mut points,
         &mut indices,

@@ -211,21 +211,26 @@ fn print_map(
     next
 }
 
+// Each map in turn. Returns how far the text was read.
 pub fn print_all(
     text: &[u8],
     points: &mut [f64],
     indices: &mut [u32],
     boxes: &mut [f64],
     links: &mut [u32],
-)
-    requires { ⌜ length (now points) < 2 ^ 32 ⌝ }
+) -> usize
+    ensures { λ r. ⌜ r ≤ length (now (text .entry)) ⌝ }
 {
     let mut at = 0;
+    if points.len() >= 0x1_0000_0000 {
+        return at;
+    }
     while at + 68 <= text.len() {
         let next = print_map(text, at, points, indices, boxes, links);
         if next <= at {
-            return;
+            return at;
         }
         at = next;
     }
+    at
 }

@@ -10,7 +10,8 @@ use lib.Ieee.{Float}
 use types.Run.{OneOf}
 use denote.Enum.Declared.{tagOf}
 use Rattle.tree.proofs.Kind as K
-use Rattle.tree.specs.Node.{bounds, kind, sound, known, mid, part}
+use Rattle.tree.specs.Node.{bounds, kind, mid, part}
+use Rattle.tree.specs.Inner.{sound, known}
 use Rattle.tree.specs.Accepted.{Tree, count}
 use Rattle.tree.specs.declared.Kind.{Kind}
 use Rattle.tree.specs.declared.Kind.the-variants.{Branch, Damaged}

@@ -1,4 +1,4 @@
--- Which child of a branch is visited first, and which entries each covers.
+-- What inner functions cite of a branch: which child is visited first, and which entries each covers.
 --   in-turn z l r a m e   the children l over a to m and r over m to e; l comes first where z is true
 use mathlib.Core.Bool.{Bool, cond}
 use Prim.Native.Nat.{ℕ}

@@ -13,7 +13,8 @@ use borrow.Author.Tests.{leb-true, ne-eqb}
 use types.Run.{OneOf}
 use denote.Enum.Declared.{tagOf}
 use Rattle.tree.proofs.Kind as K
-use Rattle.tree.specs.Node.{children, covers, kind, sound, known}
+use Rattle.tree.specs.Node.{children, covers, kind}
+use Rattle.tree.specs.Inner.{sound, known}
 use Rattle.tree.specs.declared.Kind.{Kind}
 use Rattle.tree.specs.declared.Kind.the-variants.{Leaf, Branch, Damaged}
 

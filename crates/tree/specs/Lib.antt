@@ -3,3 +3,4 @@ pub mod Points
 pub mod Node
 pub mod Count
 pub mod Accepted
+pub mod Inner

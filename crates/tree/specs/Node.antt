@@ -3,11 +3,9 @@
 --   children c l r          what the child numbers l and r make of a node over c entries
 --   covers boxes links v a e  node v lies whole in both lists, and says that it covers the entries a to e
 --   kind boxes links v a e  node v, at the place where the halving calls for a node over a to e
---   sound k                 a node of the kind k is no damage
---   known links v           what node v is, if it is known to be sound
 --   mid a e                 where the left half of a to e ends
 --   part l a e              the entries of l from a to e; none where a > e or e is past the end
-use mathlib.Core.Bool.{Bool, true, false, _&&_, cond}
+use mathlib.Core.Bool.{Bool, _&&_, cond}
 use mathlib.Core.List.{List, []}
 use Prim.Native.Nat.{ℕ, zero, suc, _+_, _-_, _*_, _/_}
 use lib.Dec.{leb, ltb, eqb}
@@ -42,14 +40,6 @@ covers boxes links v a e =
 abbrev pub kind : List Float → List ℕ → ℕ → ℕ → ℕ → Kind
 kind boxes links v a e =
     cond (covers boxes links v a e) (children (e - a) (getD links (v * 4 + 2) 0) (getD links (v * 4 + 3) 0)) Damaged
-
-abbrev pub sound : Kind → Bool
-sound Leaf = true
-sound (Branch l r) = true
-sound Damaged = false
-
-abbrev pub known : List ℕ → ℕ → Kind
-known links v = cond (eqb (getD links (v * 4 + 2) 0) 0) Leaf (Branch (getD links (v * 4 + 2) 0) (getD links (v * 4 + 3) 0))
 
 abbrev pub mid : ℕ → ℕ → ℕ
 mid a e = a + (e - a) / 2

@@ -8,7 +8,8 @@ ghost use Prim.Native.Nat.{_+_, _-_, _*_, _^_, _<_, _≤_};
 ghost use lib.ListN.{length, getD};
 ghost use lib.Ieee.{nan};
 ghost use Rattle.tree.specs.Points.{limit, FirstBad};
-ghost use Rattle.tree.specs.Node.{bounds, children, kind, sound, known, part};
+ghost use Rattle.tree.specs.Node.{bounds, children, kind, part};
+ghost use Rattle.tree.specs.Inner.{sound, known};
 ghost use Rattle.tree.specs.Count.{leaf-of, nodes, node-count};
 
 // What a node is: a leaf, a branch with its two children, or damage.

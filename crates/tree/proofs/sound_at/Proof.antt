@@ -1,6 +1,6 @@
 -- `tree::sound_at` meets its contract: `kind_at` answers damage, or else a leaf or a branch. Assumes nothing.
 use mathlib.Core.Path.{sym, ap, _∙_}
-use Rattle.tree.specs.Node.{sound}
+use Rattle.tree.specs.Inner.{sound}
 use Rattle.tree.proofs.Sound.{sound-tag}
 use borrow.Author.Needs.{needs}
 use Rattle.tree.proofs.sound_at.Statement.{statement}

@@ -1,4 +1,4 @@
--- `print_all` is safe and ends: the place rises. Assumes nothing.
+-- `print_all` meets its contract: the place rises, and stays inside the text. Assumes nothing.
 use mathlib.Core.Path.{_≡_}
 use Prim.Native.Nat.{_≤_, _-_}
 use lib.ListN.{length}
@@ -11,6 +11,9 @@ Inv-loop text points₀ indices₀ boxes₀ links₀ at₀ points indices boxes 
 
 abbrev μ-loop : tie.MeasureT-loop
 μ-loop text points₀ indices₀ boxes₀ links₀ at₀ points indices boxes links at = length text - at
+
+returns : tie.Need-returns Inv-loop μ-loop
+returns c = search needs
 
 loop-holds : tie.Need-loop-holds Inv-loop μ-loop
 loop-holds c = search needs
@@ -33,8 +36,8 @@ same-length-3 c = search needs
 same-length-4 : tie.Need-same-length-4 Inv-loop μ-loop
 same-length-4 c = search needs
 
-returns : tie.Need-returns Inv-loop μ-loop
-returns c = search needs
+returns-2 : tie.Need-returns-2 Inv-loop μ-loop
+returns-2 c = search needs
 
 loop-less : tie.Need-loop-less Inv-loop μ-loop
 loop-less c = search needs
@@ -54,8 +57,8 @@ same-length-7 c = search needs
 same-length-8 : tie.Need-same-length-8 Inv-loop μ-loop
 same-length-8 c = search needs
 
-returns-2 : tie.Need-returns-2 Inv-loop μ-loop
-returns-2 c = search needs
+returns-3 : tie.Need-returns-3 Inv-loop μ-loop
+returns-3 c = search needs
 
 pub print-all-spec : {M : Type 1} → statement M
 print-all-spec =
@@ -63,6 +66,7 @@ print-all-spec =
     (tie.spec
     Inv-loop
     μ-loop
+    returns
     loop-holds
     add-loop
     print-map-requires
@@ -70,11 +74,11 @@ print-all-spec =
     same-length-2
     same-length-3
     same-length-4
-    returns
+    returns-2
     loop-less
     loop-again
     same-length-5
     same-length-6
     same-length-7
     same-length-8
-    returns-2)
+    returns-3)
