@@ -80,12 +80,14 @@ fn scan_part(
 
 // From a sound node over start to end, with the count of the heap in a cell; false where damage is met. A branch tests both
 // its children before it visits either, and the farther one again by its bound, so that most of those cost no call.
+// Slices and the place are handed on as in nearest's walk, and for the same reason.
 fn knn_search(
     points: &[f64],
     indices: &[u32],
     boxes: &[f64],
     links: &[u32],
-    q: Coord,
+    x: f64,
+    y: f64,
     k: usize,
     node: u32,
     start: usize,
@@ -95,8 +97,9 @@ fn knn_search(
     held: &mut usize,
 ) -> bool
     requires { ⌜ (start < end) × (sound (kind (now boxes) (now links) node start end) ≡ true) × Room k (now held) (now near) (now d2s) ⌝ }
-    ensures { λ r. ⌜ Walks (tree (now (points .entry)) (now (indices .entry)) (now (boxes .entry)) (now (links .entry))) (holding k (now (points .entry)) q) node start end (heap-of (now (held .entry)) (now (near .entry)) (now (d2s .entry))) (walked (celled r (now (held .exit))) (now (near .exit)) (now (d2s .exit))) × Grew k (now (held .entry)) (now (near .entry)) (now (d2s .entry)) (celled r (now (held .exit))) (now (near .exit)) (now (d2s .exit)) ⌝ }
+    ensures { λ r. ⌜ Walks (tree (now (points .entry)) (now (indices .entry)) (now (boxes .entry)) (now (links .entry))) (holding k (now (points .entry)) (place x y)) node start end (heap-of (now (held .entry)) (now (near .entry)) (now (d2s .entry))) (walked (celled r (now (held .exit))) (now (near .exit)) (now (d2s .exit))) × Grew k (now (held .entry)) (now (near .entry)) (now (d2s .entry)) (celled r (now (held .exit))) (now (near .exit)) (now (d2s .exit)) ⌝ }
 {
+    let q = Coord { x, y };
     if passes(boxes, node, q, d2s, *held, k) {
         return true;
     }
@@ -121,11 +124,12 @@ fn knn_search(
     let first = search::ordered_children(boxes, left, right, q);
     let t = search::in_turn(first, left, right, start, mid, end);
     if !knn_search(
-        points,
-        indices,
-        boxes,
-        links,
-        q,
+        &*points,
+        &*indices,
+        &*boxes,
+        &*links,
+        x,
+        y,
         k,
         t.near,
         t.near_start,
@@ -140,11 +144,12 @@ fn knn_search(
         return true;
     }
     knn_search(
-        points,
-        indices,
-        boxes,
-        links,
-        q,
+        &*points,
+        &*indices,
+        &*boxes,
+        &*links,
+        x,
+        y,
         k,
         t.far,
         t.far_start,
@@ -182,7 +187,8 @@ fn knn_all(
         indices,
         boxes,
         links,
-        q,
+        q.x,
+        q.y,
         k,
         0,
         0,

@@ -37,11 +37,13 @@ fn offer(d2: &mut f64, index: &mut u32, d: f64, i: u32)
     *index = i;
 }
 
-// The points of a leaf; false where an index is no point's.
+// The points of a leaf; false where an index is no point's. The best stands in registers meanwhile, not in the cells.
 fn scan_leaf(points: &[f64], part: &[u32], q: Coord, d2: &mut f64, index: &mut u32) -> bool
     ensures { λ r. ⌜ celled r (best (now (d2 .exit)) (now (index .exit))) ≡ outcome (scan (size (now (points .entry))) (nearest (now (points .entry)) q .next) 1 (best (now (d2 .entry)) (now (index .entry))) (now (part .entry))) ⌝ }
 {
     let mut k: usize = 0;
+    let mut best_d2 = *d2;
+    let mut best_index = *index;
     while k < part.len() {
         let w = part[k];
         let i = w as usize;
@@ -53,20 +55,25 @@ fn scan_leaf(points: &[f64], part: &[u32], q: Coord, d2: &mut f64, index: &mut u
             y: points[2 * i + 1],
         };
         let d = distance::coord_distance_sq(q, p);
-        offer(d2, index, d, w);
+        offer(&mut best_d2, &mut best_index, d, w);
         k += 1;
     }
+    *d2 = best_d2;
+    *index = best_index;
     true
 }
 
 // From a sound node over start to end, with the best so far in two cells; false where damage is met. A branch tests both
 // its children before it visits either, and the farther one again by its bound, so that most of those cost no call.
+// Slices are lent on by `&*`, and the place by its numbers: so the compiler passes pointer and length each as they were
+// stored. Copied in one, they wait for both stores, and thus for the whole question before (a seventh of the time).
 fn nn_search(
     points: &[f64],
     indices: &[u32],
     boxes: &[f64],
     links: &[u32],
-    q: Coord,
+    x: f64,
+    y: f64,
     node: u32,
     start: usize,
     end: usize,
@@ -74,8 +81,9 @@ fn nn_search(
     index: &mut u32,
 ) -> bool
     requires { ⌜ (start < end) × (sound (kind (now boxes) (now links) node start end) ≡ true) ⌝ }
-    ensures { λ r. ⌜ Walks (tree (now (points .entry)) (now (indices .entry)) (now (boxes .entry)) (now (links .entry))) (nearest (now (points .entry)) q) node start end (best (now (d2 .entry)) (now (index .entry))) (celled r (best (now (d2 .exit)) (now (index .exit)))) ⌝ }
+    ensures { λ r. ⌜ Walks (tree (now (points .entry)) (now (indices .entry)) (now (boxes .entry)) (now (links .entry))) (nearest (now (points .entry)) (at x y)) node start end (best (now (d2 .entry)) (now (index .entry))) (celled r (best (now (d2 .exit)) (now (index .exit)))) ⌝ }
 {
+    let q = Coord { x, y };
     if *d2 < search::node_bound(boxes, node, q) {
         return true;
     }
@@ -90,13 +98,14 @@ fn nn_search(
         return false;
     }
     let first = search::ordered_children(boxes, left, right, q);
-    let t = search::in_turn_by_jump(first, left, right, start, mid, end);
+    let t = search::in_turn(first, left, right, start, mid, end);
     if !nn_search(
-        points,
-        indices,
-        boxes,
-        links,
-        q,
+        &*points,
+        &*indices,
+        &*boxes,
+        &*links,
+        x,
+        y,
         t.near,
         t.near_start,
         t.near_end,
@@ -109,11 +118,12 @@ fn nn_search(
         return true;
     }
     nn_search(
-        points,
-        indices,
-        boxes,
-        links,
-        q,
+        &*points,
+        &*indices,
+        &*boxes,
+        &*links,
+        x,
+        y,
         t.far,
         t.far_start,
         t.far_end,
@@ -155,7 +165,8 @@ pub fn nearest_neighbour(
         indices,
         boxes,
         links,
-        q,
+        x,
+        y,
         0,
         0,
         n,

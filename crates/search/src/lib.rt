@@ -94,39 +94,6 @@ pub fn in_turn(first: bool, left: u32, right: u32, start: usize, mid: usize, end
     }
 }
 
-// The same by a jump: the processor runs ahead of it, and a walk that only waits to know the nearer child gains by that
-// more than it loses where the guess was wrong. Nearest does (a tenth); k-nearest, with its heap, does not.
-pub fn in_turn_by_jump(
-    first: bool,
-    left: u32,
-    right: u32,
-    start: usize,
-    mid: usize,
-    end: usize,
-) -> Turn
-    ensures { λ r. ⌜ r ≡ in-turn first left right start mid end ⌝ }
-{
-    if first {
-        Turn {
-            near: left,
-            near_start: start,
-            near_end: mid,
-            far: right,
-            far_start: mid,
-            far_end: end,
-        }
-    } else {
-        Turn {
-            near: right,
-            near_start: mid,
-            near_end: end,
-            far: left,
-            far_start: start,
-            far_end: mid,
-        }
-    }
-}
-
 // The first of 1, 2 and 4 that applies to a query at q over these points; 0 where none does.
 pub fn refusal(points: &[f64], q: Coord) -> u32
     ensures { λ r. ⌜ r ≡ refusal (now (points .entry)) q ⌝ }

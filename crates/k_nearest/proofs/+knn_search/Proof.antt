@@ -11,7 +11,7 @@ use Rattle.tree.specs.Accepted.{tree}
 use Rattle.tree.proofs.Sound.{unsound, sound-known, sound-boxes, sound-links}
 use Rattle.search.specs.Walk.{scan, outcome}
 use Rattle.search.proofs.Turning.{Branched, sound-skip, sound-leaf, ready, left-broken, right-broken, near-damaged, near-then, near-skip}
-use Rattle.k_nearest.specs.Query.{holding}
+use Rattle.k_nearest.specs.Query.{holding, place}
 use Rattle.k_nearest.specs.Inner.{heap-of}
 use Rattle.k_nearest.proofs.Heaps.{larger-none, room-after, skip-is, walked-damaged, walked-held, grew-held, grew-damaged, celled-held, celled-damaged, grew-then}
 use native.Mathlib.Omega.{arith}
@@ -33,7 +33,7 @@ use Rattle.k_nearest.proofs.+knn_search.{statement}
 use Rattle.k_nearest.proofs.+knn_search.Tie.{close}
 
 abbrev μ-knn-search : Measures 7 knn-search-kinds.ps ℕ
-μ-knn-search κs a = a .1 .1 .1 .1 .1 .1 .1 .1 .0 - a .1 .1 .1 .1 .1 .1 .1 .0
+μ-knn-search κs a = a .1 .1 .1 .1 .1 .1 .1 .1 .1 .0 - a .1 .1 .1 .1 .1 .1 .1 .1 .0
 
 abbrev knn-search-at : ℕ → In 7 knn-search-kinds.ps
 knn-search-at t =
@@ -55,7 +55,7 @@ knn-search-passes-requires t c κs =
 
 -- what the definition says of passing over the node, by what the code found
 skips : (t : ℕ) (c : knn-search-lts.After-passes (rs t) (knn-search-at t) knn-search.Post) (z : Bool) → c .passes .result ≡ z → let a = c .before .before .before .before .before .before .before .before .before .args in
-    holding (a .k) (now (a .points)) (a .q) .skip (heap-of (now (a .held)) (now (a .near)) (now (a .d2s))) (bounds (now (a .boxes)) (a .node)) ≡ z
+    holding (a .k) (now (a .points)) (place (a .x) (a .y)) .skip (heap-of (now (a .held)) (now (a .near)) (now (a .d2s))) (bounds (now (a .boxes)) (a .node)) ≡ z
 skips t c z h =
     let st = c .before .before .before .before .before .before .before .before .before in
     let a = st .args in
@@ -70,7 +70,7 @@ knn-search-returns t c =
     let a = st .args in
     let p = st .pre .1 in
     let T = tree (now (a .points)) (now (a .indices)) (now (a .boxes)) (now (a .links)) in
-    let Q = holding (a .k) (now (a .points)) (a .q) in
+    let Q = holding (a .k) (now (a .points)) (place (a .x) (a .y)) in
     let s = heap-of (now (a .held)) (now (a .near)) (now (a .d2s)) in
     (sound-skip T Q (a .node) (a .start) (a .end) s (p .1) (p .0) (skips t (c .before) true (c .if1 .taken)), grew-held _ _ _ _ _ _ _ (larger-none (a .k) (now (a .held)) (now (a .near)) (now (a .d2s)) (p .2 .few)))
 
@@ -105,7 +105,7 @@ knn-search-returns-2 t c =
     let a = st .args in
     let p = st .pre .1 in
     let T = tree (now (a .points)) (now (a .indices)) (now (a .boxes)) (now (a .links)) in
-    let Q = holding (a .k) (now (a .points)) (a .q) in
+    let Q = holding (a .k) (now (a .points)) (place (a .x) (a .y)) in
     let s = heap-of (now (a .held)) (now (a .near)) (now (a .d2s)) in (
       sound-leaf T Q (a .node) (a .start) (a .end) s (p .1) (p .0) (k .kind-of .result) (k .kind-of .ensures) (m .match .keys2) (skips t n false (k .before .if1 .left)) _
           (g .scan-part .ensures .0 ∙ ap (λ (l : List ℕ). outcome (scan (size (now (a .points))) (Q .next) 1 s l)) (g .before .before .before .before .part-of .ensures)),
@@ -132,7 +132,7 @@ knn-search-returns-3 t c =
     let st = n .before .before .before .before .before .before .before .before .before in
     let a = st .args in
     let T = tree (now (a .points)) (now (a .indices)) (now (a .boxes)) (now (a .links)) in
-    let Q = holding (a .k) (now (a .points)) (a .q) in
+    let Q = holding (a .k) (now (a .points)) (place (a .x) (a .y)) in
     let s = heap-of (now (a .held)) (now (a .near)) (now (a .d2s)) in (
       left-broken T Q (a .node) (a .start) (a .end) s _ _
           (sound-known (now (a .boxes)) (now (a .links)) (a .node) (a .start) (a .end) (st .pre .1 .1) ∙ sym (k .kind-of .ensures) ∙ m .left .given .1) (skips t n false (k .before .if1 .left))
@@ -154,7 +154,7 @@ knn-search-returns-4 t c =
     let st = n .before .before .before .before .before .before .before .before .before in
     let a = st .args in
     let T = tree (now (a .points)) (now (a .indices)) (now (a .boxes)) (now (a .links)) in
-    let Q = holding (a .k) (now (a .points)) (a .q) in
+    let Q = holding (a .k) (now (a .points)) (place (a .x) (a .y)) in
     let s = heap-of (now (a .held)) (now (a .near)) (now (a .d2s)) in (
       right-broken T Q (a .node) (a .start) (a .end) s _ _
           (sound-known (now (a .boxes)) (now (a .links)) (a .node) (a .start) (a .end) (st .pre .1 .1) ∙ sym (k .kind-of .ensures) ∙ m .left .given .1) (skips t n false (k .before .if1 .left))
@@ -175,7 +175,7 @@ knn-search-in-turn-requires t c κs = search needs
 
 -- what is known once the children stand in turn
 branched : (t : ℕ) (c : knn-search-lts.After-in-turn (rs t) (knn-search-at t) knn-search.Post) → let a = c .before .before .before .before .before .before .before .before .before .before .before .before .before .before .before .before .before .before .before .before .args in
-    Branched (tree (now (a .points)) (now (a .indices)) (now (a .boxes)) (now (a .links))) (holding (a .k) (now (a .points)) (a .q)) (a .node) (a .start) (a .end) (heap-of (now (a .held)) (now (a .near)) (now (a .d2s))) (c .in-turn .result)
+    Branched (tree (now (a .points)) (now (a .indices)) (now (a .boxes)) (now (a .links))) (holding (a .k) (now (a .points)) (place (a .x) (a .y))) (a .node) (a .start) (a .end) (heap-of (now (a .held)) (now (a .near)) (now (a .d2s))) (c .in-turn .result)
 branched t c =
     let o = c .before in
     let i = o .before .before in
@@ -225,7 +225,7 @@ knn-search-passes-requires-2 t c κs =
     let u = w .knn-search in
     let e = celled-held (u .result) _ (not-false (u .result) (c .before .if4 .left)) in
     let L = u .ensures .1 .grows _ e in
-    let R = room-after (a .k) (now (a .held)) (now (a .near)) (now (a .d2s)) _ _ _ (st .pre .1 .2) L (u .kept .1 .1 .1 .1 .1 .1 .1 .1 .1 .0) (u .kept .1 .1 .1 .1 .1 .1 .1 .1 .1 .1 .0) in
+    let R = room-after (a .k) (now (a .held)) (now (a .near)) (now (a .d2s)) _ _ _ (st .pre .1 .2) L (u .kept .1 .1 .1 .1 .1 .1 .1 .1 .1 .1 .0) (u .kept .1 .1 .1 .1 .1 .1 .1 .1 .1 .1 .1 .0) in
     let T = o .in-turn .result in
     (R .some, R .in-d, sound-boxes (now (a .boxes)) (now (a .links)) (T .far) (T .«far_start») (T .«far_end») (ready (branched t o) .far-sound))
 
@@ -244,7 +244,7 @@ knn-search-returns-6 t c =
     let u = w .knn-search in
     let e = celled-held (u .result) _ (not-false (u .result) (c .before .before .before .if4 .left)) in
     let L = u .ensures .1 .grows _ e in
-    let R = room-after (a .k) (now (a .held)) (now (a .near)) (now (a .d2s)) _ _ _ (st .pre .1 .2) L (u .kept .1 .1 .1 .1 .1 .1 .1 .1 .1 .0) (u .kept .1 .1 .1 .1 .1 .1 .1 .1 .1 .1 .0) in (
+    let R = room-after (a .k) (now (a .held)) (now (a .near)) (now (a .d2s)) _ _ _ (st .pre .1 .2) L (u .kept .1 .1 .1 .1 .1 .1 .1 .1 .1 .1 .0) (u .kept .1 .1 .1 .1 .1 .1 .1 .1 .1 .1 .1 .0) in (
       near-skip (branched t o) _ (u .ensures .0) _ (walked-held _ _ _ _ e) (skip-is (a .k) _ _ _ R _ _ true (c .before .passes2 .ensures) (c .if5 .taken)),
       grew-held _ _ _ _ _ _ _ L,
     )
@@ -258,7 +258,7 @@ knn-search-knn-search-requires-2 t c κs =
     let u = w .knn-search in
     let e = celled-held (u .result) _ (not-false (u .result) (c .before .before .before .before .before .before .if4 .left)) in
     let L = u .ensures .1 .grows _ e in
-    let R = room-after (a .k) (now (a .held)) (now (a .near)) (now (a .d2s)) _ _ _ (st .pre .1 .2) L (u .kept .1 .1 .1 .1 .1 .1 .1 .1 .1 .0) (u .kept .1 .1 .1 .1 .1 .1 .1 .1 .1 .1 .0) in
+    let R = room-after (a .k) (now (a .held)) (now (a .near)) (now (a .d2s)) _ _ _ (st .pre .1 .2) L (u .kept .1 .1 .1 .1 .1 .1 .1 .1 .1 .1 .0) (u .kept .1 .1 .1 .1 .1 .1 .1 .1 .1 .1 .1 .0) in
     let b = ready (branched t o) in
     (omega (arith, b .far-less, st .pre .0), (b .far-some, b .far-sound, R))
 

@@ -12,7 +12,7 @@ use Rattle.tree.proofs.Sound.{unsound, sound-known, sound-boxes, sound-links}
 use Rattle.search.specs.Walk.{scan, outcome}
 use Rattle.search.specs.Order.{best}
 use Rattle.search.proofs.Turning.{Branched, sound-skip, sound-leaf, ready, left-broken, right-broken, near-damaged, near-then, near-skip}
-use Rattle.nearest.specs.Nearest.{nearest}
+use Rattle.nearest.specs.Nearest.{nearest, at}
 use Rattle.nearest.proofs.Cells.{celled-true, celled-false}
 use native.Mathlib.Omega.{arith}
 use borrow.Author.Needs.{needs}
@@ -23,7 +23,7 @@ use Rattle.nearest.proofs.nn_search.Reads as nn-search
 use Rattle.nearest.proofs.nn_search.Kinds as nn-search-kinds
 use Rattle.nearest.proofs.+nn_search.Lts-nn_search as nn-search-lts
 use Rattle.nearest.proofs.scan_leaf.Reads as scan-leaf-reads
-use Rattle.search.proofs.in_turn_by_jump.Reads as in-turn-reads
+use Rattle.search.proofs.in_turn.Reads as in-turn-reads
 use Rattle.search.proofs.node_bound.Reads as node-bound-reads
 use Rattle.search.proofs.ordered_children.Reads as ordered-children-reads
 use Rattle.tree.proofs.kind_of.Reads as kind-of-reads
@@ -33,7 +33,7 @@ use Rattle.nearest.proofs.+nn_search.{statement}
 use Rattle.nearest.proofs.+nn_search.Tie.{close}
 
 abbrev μ-nn-search : Measures 6 nn-search-kinds.ps ℕ
-μ-nn-search κs a = a .1 .1 .1 .1 .1 .1 .1 .0 - a .1 .1 .1 .1 .1 .1 .0
+μ-nn-search κs a = a .1 .1 .1 .1 .1 .1 .1 .1 .0 - a .1 .1 .1 .1 .1 .1 .1 .0
 
 abbrev nn-search-at : ℕ → In 6 nn-search-kinds.ps
 nn-search-at t = and 6 nn-search-kinds.ps (is 6 nn-search-kinds.ps μ-nn-search t) nn-search.Pre
@@ -56,7 +56,7 @@ nn-search-returns t c =
     let st = c .before .before .before .before .before .before in
     let a = st .args in
     let T = tree (now (a .points)) (now (a .indices)) (now (a .boxes)) (now (a .links)) in
-    let Q = nearest (now (a .points)) (a .q) in
+    let Q = nearest (now (a .points)) (at (a .x) (a .y)) in
     let s = best (now (a .d2)) (now (a .index)) in
     sound-skip T Q (a .node) (a .start) (a .end) s (st .pre .1 .1) (st .pre .1 .0)
     (ap (λ (x : Float). lt (s .d2) x) (sym (c .before .node-bound .ensures)) ∙ c .if1 .taken)
@@ -84,7 +84,7 @@ nn-search-returns-2 t c =
     let st = n .before .before .before .before .before in
     let a = st .args in
     let T = tree (now (a .points)) (now (a .indices)) (now (a .boxes)) (now (a .links)) in
-    let Q = nearest (now (a .points)) (a .q) in
+    let Q = nearest (now (a .points)) (at (a .x) (a .y)) in
     let s = best (now (a .d2)) (now (a .index)) in
     sound-leaf T Q (a .node) (a .start) (a .end) s (st .pre .1 .1) (st .pre .1 .0) (k .kind-of .result) (k .kind-of .ensures) (m .match .keys2)
     (ap (λ (x : Float). lt (s .d2) x) (sym (n .node-bound .ensures)) ∙ k .before .if1 .left) _
@@ -107,7 +107,7 @@ nn-search-returns-3 t c =
     let st = n .before .before .before .before .before in
     let a = st .args in
     let T = tree (now (a .points)) (now (a .indices)) (now (a .boxes)) (now (a .links)) in
-    let Q = nearest (now (a .points)) (a .q) in
+    let Q = nearest (now (a .points)) (at (a .x) (a .y)) in
     let s = best (now (a .d2)) (now (a .index)) in
     left-broken T Q (a .node) (a .start) (a .end) s _ _
     (sound-known (now (a .boxes)) (now (a .links)) (a .node) (a .start) (a .end) (st .pre .1 .1) ∙ sym (k .kind-of .ensures) ∙ m .left .given .1)
@@ -125,7 +125,7 @@ nn-search-returns-4 t c =
     let st = n .before .before .before .before .before in
     let a = st .args in
     let T = tree (now (a .points)) (now (a .indices)) (now (a .boxes)) (now (a .links)) in
-    let Q = nearest (now (a .points)) (a .q) in
+    let Q = nearest (now (a .points)) (at (a .x) (a .y)) in
     let s = best (now (a .d2)) (now (a .index)) in
     right-broken T Q (a .node) (a .start) (a .end) s _ _
     (sound-known (now (a .boxes)) (now (a .links)) (a .node) (a .start) (a .end) (st .pre .1 .1) ∙ sym (k .kind-of .ensures) ∙ m .left .given .1)
@@ -140,12 +140,12 @@ nn-search-ordered-children-requires t c κs =
       sound-boxes (now (a .boxes)) (now (a .links)) _ (mid (a .start) (a .end)) (a .end) (sym (c .before .sound-at2 .ensures) ∙ not-false (c .before .sound-at2 .result) (c .if3 .left)),
     )
 
-nn-search-in-turn-by-jump-requires : (t : ℕ) → nn-search-lts.Need-in-turn-by-jump-requires (rs t) (nn-search-at t) nn-search.Post
-nn-search-in-turn-by-jump-requires t c κs = search needs
+nn-search-in-turn-requires : (t : ℕ) → nn-search-lts.Need-in-turn-requires (rs t) (nn-search-at t) nn-search.Post
+nn-search-in-turn-requires t c κs = search needs
 
 -- what is known once the children stand in turn
-branched : (t : ℕ) (c : nn-search-lts.After-in-turn-by-jump (rs t) (nn-search-at t) nn-search.Post) → let st = c .before .before .before .before .before .before .before .before .before .before .before .before .before .before .before .before in let a = st .args in
-    Branched (tree (now (a .points)) (now (a .indices)) (now (a .boxes)) (now (a .links))) (nearest (now (a .points)) (a .q)) (a .node) (a .start) (a .end) (best (now (a .d2)) (now (a .index))) (c .in-turn-by-jump .result)
+branched : (t : ℕ) (c : nn-search-lts.After-in-turn (rs t) (nn-search-at t) nn-search.Post) → let st = c .before .before .before .before .before .before .before .before .before .before .before .before .before .before .before .before in let a = st .args in
+    Branched (tree (now (a .points)) (now (a .indices)) (now (a .boxes)) (now (a .links))) (nearest (now (a .points)) (at (a .x) (a .y))) (a .node) (a .start) (a .end) (best (now (a .d2)) (now (a .index))) (c .in-turn .result)
 branched t c =
     let o = c .before in
     let i = o .before .before in
@@ -162,7 +162,7 @@ branched t c =
       branch = sound-known (now (a .boxes)) (now (a .links)) (a .node) (a .start) (a .end) (st .pre .1 .1) ∙ sym (k .kind-of .ensures) ∙ m .left .given .1;
       entered = ap (λ (x : Float). lt (now (a .d2)) x) (sym (n .node-bound .ensures)) ∙ k .before .if1 .left;
       ordered = o .ordered-children .ensures;
-      turned = c .in-turn-by-jump .ensures;
+      turned = c .in-turn .ensures;
       left-sound = sym (j .sound-at .ensures) ∙ not-false (j .sound-at .result) (i .before .if2 .left);
       right-sound = sym (i .sound-at2 .ensures) ∙ not-false (i .sound-at2 .result) (o .before .if3 .left);
     }
@@ -182,7 +182,7 @@ nn-search-node-bound-requires-2 : (t : ℕ) → nn-search-lts.Need-node-bound-re
 nn-search-node-bound-requires-2 t c κs =
     let o = c .before .before .before .before in
     let a = o .before .before .before .before .before .before .before .before .before .before .before .before .before .before .before .before .args in
-    let T = o .in-turn-by-jump .result in
+    let T = o .in-turn .result in
     sound-boxes (now (a .boxes)) (now (a .links)) (T .far) (T .«far_start») (T .«far_end») (ready (branched t o) .far-sound)
 
 nn-search-returns-6 : (t : ℕ) → nn-search-lts.Need-returns-6 (rs t) (nn-search-at t) nn-search.Post
@@ -221,7 +221,7 @@ pub +nn-search-spec : {M : Type 1} → statement M
     (nn-search-sound-at-requires-2 t)
     (nn-search-returns-4 t)
     (nn-search-ordered-children-requires t)
-    (nn-search-in-turn-by-jump-requires t)
+    (nn-search-in-turn-requires t)
     (nn-search-nn-search-requires t)
     (nn-search-returns-5 t)
     (nn-search-node-bound-requires-2 t)

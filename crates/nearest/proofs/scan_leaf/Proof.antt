@@ -17,12 +17,12 @@ use Rattle.nearest.proofs.scan_leaf.Statement.{statement}
 use Rattle.nearest.proofs.scan_leaf.Tie as tie
 
 abbrev Inv-loop : tie.InvT-loop
-Inv-loop points part q d2₀ index₀ k₀ d2 index k =
+Inv-loop points part q d2₀ index₀ k₀ d2' index' k d2 index =
     (k ≤ length part)
     × (outcome (scan (size points) (nearest points q .next) 1 (best d2₀ index₀) part) ≡ outcome (scan (size points) (nearest points q .next) 1 (best d2 index) (drop k part)))
 
 abbrev μ-loop : tie.MeasureT-loop
-μ-loop points part q d2₀ index₀ k₀ d2 index k = length part - k
+μ-loop points part q d2₀ index₀ k₀ d2' index' k d2 index = length part - k
 
 loop-holds : tie.Need-loop-holds Inv-loop μ-loop
 loop-holds c = search needs
@@ -38,31 +38,31 @@ cast-i c = omega (arith, c .shared-slice-known3 .given (c .before .before .loop 
 
 returns : tie.Need-returns Inv-loop μ-loop
 returns c =
-    let a = c .before .before .before .before .before .before .args in
+    let a = c .before .before .before .before .before .before .before .args in
     let l = c .before .before .before .loop in
     let ps = now (a .points) in
-    sym (l .inv .1 ∙ scan-out (size ps) (nearest ps (a .q) .next) 1 (best (l .d2) (l .index)) (now (a .part)) (l .k) (c .before .before .loop-test .taken) (c .if1 .taken))
-
-mul-t11 : tie.Need-mul-t11 Inv-loop μ-loop
-mul-t11 c = search needs
+    sym (l .inv .1 ∙ scan-out (size ps) (nearest ps (a .q) .next) 1 (best (l .best-d2) (l .best-index)) (now (a .part)) (l .k) (c .before .before .loop-test .taken) (c .if1 .taken))
 
 mul-t15 : tie.Need-mul-t15 Inv-loop μ-loop
 mul-t15 c = search needs
 
-shared-slice-read-t17 : tie.Need-shared-slice-read-t17 Inv-loop μ-loop
-shared-slice-read-t17 c = search needs
+mul-t19 : tie.Need-mul-t19 Inv-loop μ-loop
+mul-t19 c = search needs
 
-mul-t18 : tie.Need-mul-t18 Inv-loop μ-loop
-mul-t18 c = search needs
+shared-slice-read-t21 : tie.Need-shared-slice-read-t21 Inv-loop μ-loop
+shared-slice-read-t21 c = search needs
 
-add-t19 : tie.Need-add-t19 Inv-loop μ-loop
-add-t19 c = search needs
+mul-t22 : tie.Need-mul-t22 Inv-loop μ-loop
+mul-t22 c = search needs
 
-mul-t20 : tie.Need-mul-t20 Inv-loop μ-loop
-mul-t20 c = search needs
+add-t23 : tie.Need-add-t23 Inv-loop μ-loop
+add-t23 c = search needs
 
-shared-slice-read-t22 : tie.Need-shared-slice-read-t22 Inv-loop μ-loop
-shared-slice-read-t22 c = search needs
+mul-t24 : tie.Need-mul-t24 Inv-loop μ-loop
+mul-t24 c = search needs
+
+shared-slice-read-t26 : tie.Need-shared-slice-read-t26 Inv-loop μ-loop
+shared-slice-read-t26 c = search needs
 
 coord-distance-sq-requires : tie.Need-coord-distance-sq-requires Inv-loop μ-loop
 coord-distance-sq-requires c κs = search needs
@@ -81,11 +81,11 @@ loop-again c =
     let d = c .before .before .before in
     let e = d .before .before .before in
     let l = e .before .before .before .loop in
-    let a = e .before .before .before .before .before .before .args in
+    let a = e .before .before .before .before .before .before .before .args in
     let ps = now (a .points) in
     let is = now (a .part) in
     let f = nearest ps (a .q) .next in
-    let s = best (l .d2) (l .index) in (
+    let s = best (l .best-d2) (l .best-index) in (
       search needs,
       l .inv .1
           ∙ scan-in (size ps) f 1 s is (l .k) (e .before .before .loop-test .taken) (e .if1 .left)
@@ -95,10 +95,10 @@ loop-again c =
 
 returns-2 : tie.Need-returns-2 Inv-loop μ-loop
 returns-2 c =
-    let a = c .before .before .before .before .args in
+    let a = c .before .before .before .before .before .args in
     let l = c .before .loop in
     let ps = now (a .points) in
-    sym (l .inv .1 ∙ scan-end (size ps) (nearest ps (a .q) .next) 1 (best (l .d2) (l .index)) (now (a .part)) (l .k) (c .loop-test .left))
+    sym (l .inv .1 ∙ scan-end (size ps) (nearest ps (a .q) .next) 1 (best (l .best-d2) (l .best-index)) (now (a .part)) (l .k) (c .loop-test .left))
 
 pub scan-leaf-spec : {M : Type 1} → statement M
 scan-leaf-spec =
@@ -111,13 +111,13 @@ scan-leaf-spec =
     shared-slice-read-w
     cast-i
     returns
-    mul-t11
     mul-t15
-    shared-slice-read-t17
-    mul-t18
-    add-t19
-    mul-t20
-    shared-slice-read-t22
+    mul-t19
+    shared-slice-read-t21
+    mul-t22
+    add-t23
+    mul-t24
+    shared-slice-read-t26
     coord-distance-sq-requires
     offer-requires
     add-k
