@@ -26,9 +26,9 @@ use Rattle.tree.specs.declared.Kind.the-variants.{Branch, Damaged}
 use Rattle.tree.specs.Node.{bounds, children, kind}
 use Rattle.tree.specs.Points.{size, x, y, AllFinite}
 use Rattle.select.proofs.Ranks.{finite-number}
-use Rattle.select.proofs.Same.{times-append, has-at}
+use Rattle.tree.proofs.Entries.{times-append, has-at}
 use Rattle.select.specs.Order.{coord}
-use Rattle.select.specs.Parts.{_∈_, Within}
+use Rattle.tree.specs.Entries.{_∈_, Within}
 use Rattle.build.proofs.Boxes.{coord-x}
 use Rattle.build.proofs.Numbering.{each-within, each-length}
 use Rattle.build.specs.Agree.{Held}

@@ -18,9 +18,9 @@ use Rattle.distance.specs.TotalOrder.{key}
 use Rattle.tree.specs.Points.{size}
 use Rattle.select.proofs.Parting.{in-either, in-left, in-right, in-take}
 use Rattle.select.proofs.Ranks.{known-number}
-use Rattle.select.proofs.Same.{has-at, Place, place, same-sym, from}
+use Rattle.tree.proofs.Entries.{has-at, Place, place, same-sym, from}
 use Rattle.select.specs.Order.{coord, key-at, Fit}
-use Rattle.select.specs.Parts.{_∈_, Same}
+use Rattle.tree.specs.Entries.{_∈_, Same}
 use Rattle.build.proofs.Rows.{six}
 use Rattle.build.specs.Built.{Tight, Box}
 use Rattle.build.specs.Steps.{Number, low-of, high-of, Ready}

@@ -13,8 +13,8 @@ use lib.Seq.{take-suc-set}
 use lib.Dec.{ltb, eqb}
 use borrow.Author.Tests.{ltb-true, ltb-false, lt-ltb, le-ltb, eq-eqb, ne-eqb}
 use Rattle.tree.specs.Accepted.{times}
-use Rattle.select.proofs.Same.{times-append}
-use Rattle.select.specs.Parts.{Within, Same}
+use Rattle.tree.proofs.Entries.{times-append}
+use Rattle.tree.specs.Entries.{Within, Same}
 use Rattle.build.proofs.Sum.{same-length}
 use Rattle.build.specs.Built.{Each}
 

@@ -14,9 +14,10 @@ use lib.Ieee.{Float, binary64, le, sub}
 use Rattle.tree.specs.Accepted.{times}
 use Rattle.tree.specs.Points.{size}
 use Rattle.select.proofs.Parting.{in-take, in-drop}
-use Rattle.select.proofs.Same.{times-append, times-parts, from}
+use Rattle.tree.proofs.Entries.{times-append, times-parts, from}
 use Rattle.select.specs.Order.{rank, Fit}
-use Rattle.select.specs.Parts.{Same, Under}
+use Rattle.tree.specs.Entries.{Same}
+use Rattle.select.specs.Parts.{Under}
 use Rattle.build.specs.Built.{axis-of, Lower}
 use Rattle.build.specs.Steps.{own-of, Ready}
 use Rattle.distance.specs.declared.Bounds.{Bounds}

@@ -22,9 +22,9 @@ use Rattle.distance.specs.TotalOrder.{key, negative, total-lt}
 use Rattle.distance.specs.declared.Bounds.{Bounds}
 use Rattle.select.proofs.Parting.{in-either, in-left, in-right}
 use Rattle.select.proofs.Ranks.{known-number}
-use Rattle.select.proofs.Same.{has-at}
+use Rattle.tree.proofs.Entries.{has-at}
 use Rattle.select.specs.Order.{coord, Fit}
-use Rattle.select.specs.Parts.{_∈_}
+use Rattle.tree.specs.Entries.{_∈_}
 use Rattle.build.proofs.Boxes.{in-one, ready-index, coord-x, first-only, fit-front}
 use Rattle.build.specs.Built.{Tight, Box}
 use Rattle.build.specs.Steps.{Number, smaller, is-zero, Plain, PlainBox, on-zero, own-of, Ready}

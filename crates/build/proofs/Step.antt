@@ -15,9 +15,10 @@ use Rattle.distance.proofs.Squares.{same}
 use Rattle.tree.proofs.Counting.{nodes-leaf, nodes-branch}
 use Rattle.tree.specs.Count.{nodes}
 use Rattle.select.proofs.Parting.{under-same, mid-all, put-back}
-use Rattle.select.proofs.Same.{one, same-refl, same-trans, same-append}
+use Rattle.tree.proofs.Entries.{one, same-refl, same-trans, same-append}
 use Rattle.select.specs.Order.{rank}
-use Rattle.select.specs.Parts.{Same, Split}
+use Rattle.tree.specs.Entries.{Same}
+use Rattle.select.specs.Parts.{Split}
 use Rattle.build.proofs.Boxes.{box-same}
 use Rattle.build.proofs.Parts.{ready-same, strict}
 use Rattle.build.proofs.Weave.{weave-front, weave-rest}

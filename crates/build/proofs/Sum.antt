@@ -11,8 +11,8 @@ use lib.ListN.{length}
 use lib.Dec.{ltb, eqb}
 use borrow.Author.Tests.{lt-ltb, le-ltb, eqb-true}
 use Rattle.tree.specs.Accepted.{times}
-use Rattle.select.proofs.Same.{one, times-append, has-at, same-sym}
-use Rattle.select.specs.Parts.{_∈_, Same}
+use Rattle.tree.proofs.Entries.{one, times-append, has-at, same-sym}
+use Rattle.tree.specs.Entries.{_∈_, Same}
 use Rattle.build.specs.Built.{Lower}
 
 abbrev pub sum : (ℕ → ℕ) → List ℕ → ℕ

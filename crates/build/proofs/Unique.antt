@@ -14,9 +14,9 @@ use Rattle.tree.proofs.Counting.{nodes-none}
 use Rattle.tree.specs.Accepted.{Tree, count}
 use Rattle.tree.specs.Count.{leaf-of, nodes}
 use Rattle.tree.specs.Points.{size}
-use Rattle.select.proofs.Same.{times-append, same-refl, same-sym, from}
+use Rattle.tree.proofs.Entries.{times-append, same-refl, same-sym, from}
 use Rattle.select.specs.Order.{coord, key-at, rank}
-use Rattle.select.specs.Parts.{_∈_, Within, Same}
+use Rattle.tree.specs.Entries.{_∈_, Within, Same}
 use Rattle.build.proofs.Numbering.{each-within, each-same}
 use Rattle.build.proofs.Sum.{same-length, same-lower}
 use Rattle.build.specs.Agree.{Held, SameBoxes, SameLeaves, Agree, no-box, a-box, in-leaf, in-halves}

@@ -12,7 +12,7 @@ use lib.Dec.{T}
 use lib.Ieee.{Float, nan, binary64, fits}
 use Rattle.tree.specs.Count.{leaf-of}
 use Rattle.tree.specs.Accepted.{Tree, count}
-use Rattle.select.specs.Parts.{Same}
+use Rattle.tree.specs.Entries.{Same}
 use Rattle.build.specs.Built.{needed}
 
 abbrev pub Held : List Float → Type 0

@@ -22,7 +22,7 @@ use Rattle.distance.specs.TotalOrder.{key}
 use Rattle.tree.specs.Points.{size}
 use Rattle.tree.specs.Count.{leaf-of, nodes}
 use Rattle.tree.specs.Accepted.{Tree, count, times}
-use Rattle.select.specs.Parts.{_∈_}
+use Rattle.tree.specs.Entries.{_∈_}
 use Rattle.select.specs.Order.{coord, key-at, rank}
 
 pub record Tight (points : List Float) (axis : ℕ) (part : List ℕ) (lo hi : Float) : Type 0 where

@@ -23,7 +23,7 @@ use Rattle.distance.specs.TotalOrder.{key}
 use Rattle.tree.specs.Points.{size, AllFinite}
 use Rattle.tree.specs.Count.{nodes}
 use Rattle.tree.specs.Accepted.{times}
-use Rattle.select.specs.Parts.{_∈_, Same, Within}
+use Rattle.tree.specs.Entries.{_∈_, Same, Within}
 use Rattle.select.specs.Order.{coord}
 use Rattle.build.specs.Built.{Subtree}
 

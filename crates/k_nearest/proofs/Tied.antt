@@ -22,7 +22,8 @@ use Rattle.search.proofs.Rank.{Good, rank, before-is, point-good, rank-one}
 use Rattle.search.proofs.Insert.{Each, ins}
 use Rattle.search.proofs.Alike.{Like, Alike, walk-alike}
 use Rattle.heap.specs.Heap.{heap-sort, offer, blank}
-use Rattle.heap.proofs.Same.{Same, _∈_, has-at, same-sym, from}
+use Rattle.tree.specs.Entries.{Same, _∈_}
+use Rattle.tree.proofs.Entries.{has-at, same-sym, from}
 use Rattle.heap.proofs.Rising.{number, sort, sort-length, sort-same, each-in}
 use Rattle.heap.proofs.Unload.{heap-sorts}
 use Rattle.heap.proofs.Each.{each-at, heap-sort-size, heap-sort-each, offer-each}

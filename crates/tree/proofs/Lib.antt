@@ -3,3 +3,5 @@ pub mod ChildNumbers
 pub mod Counting
 pub mod NotFinite
 pub mod Sound
+pub mod Entries
+pub mod Swaps

@@ -3,4 +3,5 @@ pub mod Points
 pub mod Node
 pub mod Count
 pub mod Accepted
+pub mod Entries
 pub mod Inner

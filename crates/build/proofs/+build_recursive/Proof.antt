@@ -13,7 +13,7 @@ use borrow.Fn.PlainCycle.{Measures, is, falls, and}
 use borrow.Rule.Slice.PartMut.{putMid}
 use Rattle.tree.specs.Count.{nodes}
 use Rattle.select.proofs.Parting.{same-front, mid-all, put-back}
-use Rattle.select.proofs.Same.{same-trans}
+use Rattle.tree.proofs.Entries.{same-trans}
 use Rattle.select.specs.Order.{rank}
 use Rattle.select.specs.Parts.{Split}
 use Rattle.build.proofs.Parts.{ready-fit, ready-same, ready-take, ready-drop, axis-two}
