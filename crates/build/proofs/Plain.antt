@@ -1,38 +1,37 @@
--- The box of a part by the order of numbers, one entry more at a time; and why it is the tight one where no end of it is a
--- zero: that order and totalOrder differ in the two zeros alone (`key-of-le`). Assumes nothing.
+-- The box of a part by the order of numbers, one entry more at a time; the scan of a part for a zero; and why the plain box
+-- with its zeros settled so is the tight one: that order and totalOrder differ in the two zeros alone (`key-of-le`).
+-- Assumes nothing.
 use mathlib.Core.Path.{_≡_, refl, sym, ap, _∙_, subst}
-use mathlib.Core.Logic.{⊎-elim}
+use mathlib.Core.Logic.{_⊎_, inl, inr, ⊎-elim}
 use mathlib.Core.Bool.{Bool, true, false, not, cond, _&&_, _||_}
 use mathlib.Core.List.{List, [], _∷_, _++_}
-use Prim.Native.Nat.{ℕ, zero, suc, _*_, _+_, _≤_, _<_}
-use native.Mathlib.Nat.{lt-irrefl, mul-pos, zero-lt-suc}
+use Prim.Native.Nat.{ℕ, _*_, _+_, _≤_, _<_}
+use native.Mathlib.Nat.{le-of-eq, le-of-lt, eq-or-lt-of-le}
 use native.Mathlib.Numerals.{add-one}
 use native.Mathlib.Omega.{arith}
+use lib.IntN.{ℤ, pos}
 use lib.ListN.{getD, length, take}
 use lib.Seq.{take-all, take-suc}
 use lib.Dec.{T, ltb, eqb, eqb→eq, lit<}
-use lib.Ieee.{Float, nan, inf, fin, up, down, binary64, fits, lt, le, eq, ofBits}
-use lib.Ieee.Fits.{and-i, and-l, and-r, down-pos, eq→eqb}
+use lib.Ieee.{Float, nan, inf, fin, up, down, binary64, fits, lt, le, eq, toBits}
+use lib.Ieee.Fits.{and-l, and-r}
 use borrow.Author.Tests.{ltb-false}
 use Rattle.distance.proofs.Prune.{lt→le, le-self, le-left, le-right, le-of-not-lt, lt-not-le}
-use Rattle.distance.proofs.Order.{le-chain}
+use Rattle.distance.proofs.Order.{le-chain, same-bits}
 use Rattle.distance.proofs.TotalKey.{key-total}
 use Rattle.distance.specs.Distance.{larger}
-use Rattle.distance.specs.TotalOrder.{key, negative, total-lt}
+use Rattle.distance.specs.TotalOrder.{key, key-bits, negative, total-lt}
 use Rattle.distance.specs.declared.Bounds.{Bounds}
 use Rattle.select.proofs.Parting.{in-either, in-left, in-right}
 use Rattle.select.proofs.Ranks.{known-number}
-use Rattle.tree.proofs.Entries.{has-at}
-use Rattle.select.specs.Order.{coord, Fit}
+use Rattle.tree.proofs.Entries.{has-at, place}
+use Rattle.select.specs.Order.{coord, key-at}
 use Rattle.tree.specs.Entries.{_∈_}
-use Rattle.build.proofs.Boxes.{in-one, ready-index, coord-x, first-only, fit-front}
+use Rattle.build.proofs.Boxes.{in-one, ready-index, coord-x, first-only}
 use Rattle.build.specs.Built.{Tight, Box}
-use Rattle.build.specs.Steps.{Number, smaller, is-zero, Plain, PlainBox, on-zero, own-of, Ready}
+use Rattle.build.specs.Steps.{Number, smaller, Plain, PlainBox, Settled, kept, turned, Ready}
 
 -- ---- one entry more
-fit-number : (points : List Float) (axis : ℕ) (xs : List ℕ) → Fit points axis xs → (v : ℕ) → v ∈ xs → Number (coord points axis v)
-fit-number points axis xs f v h = known-number points axis v (record { all-finite = f .all-finite; axes = f .axes; inside = f .within v h })
-
 plain-one : (points : List Float) (axis v : ℕ) → Number (coord points axis v) → Plain points axis (v ∷ []) (coord points axis v) (coord points axis v)
 plain-one points axis v n = record {
   low = v;
@@ -45,7 +44,14 @@ plain-one points axis v n = record {
   greatest = λ w h. rw (in-one w v h) (le-self (coord points axis v) n);
 }
 
-module _ (points : List Float) (axis : ℕ) (xs : List ℕ) (lo hi : Float) (t : Plain points axis xs lo hi) (L : Number lo) (H : Number hi) (v : ℕ) (X : Number (coord points axis v)) where
+-- both ends are numbers: `le` holds of no NaN
+pub low-number : {points : List Float} {axis : ℕ} {xs : List ℕ} {lo hi : Float} → Plain points axis xs lo hi → Number lo
+low-number {points} {axis} {lo = lo} t = le-left lo (coord points axis (t .low)) (t .least (t .low) (t .low-in))
+
+pub high-number : {points : List Float} {axis : ℕ} {xs : List ℕ} {lo hi : Float} → Plain points axis xs lo hi → Number hi
+high-number {points} {axis} {hi = hi} t = le-right (coord points axis (t .high)) hi (t .greatest (t .high) (t .high-in))
+
+module _ (points : List Float) (axis : ℕ) (xs : List ℕ) (lo hi : Float) (t : Plain points axis xs lo hi) (v : ℕ) (X : Number (coord points axis v)) where
   abbrev x : Float
   x = coord points axis v
 
@@ -60,7 +66,7 @@ module _ (points : List Float) (axis : ℕ) (xs : List ℕ) (lo hi : Float) (t :
     at = t .low;
     inside = in-left (t .low) xs (v ∷ []) (t .low-in);
     is = t .low-is;
-    least = λ w h. ⊎-elim (t .least w) (λ (g : w ∈ (v ∷ [])). rw (in-one w v g) (le-of-not-lt x lo X L e)) (in-either w xs (v ∷ []) h);
+    least = λ w h. ⊎-elim (t .least w) (λ (g : w ∈ (v ∷ [])). rw (in-one w v g) (le-of-not-lt x lo X (low-number t) e)) (in-either w xs (v ∷ []) h);
   }
 
   high-more : (b : Bool) → lt hi x ≡ b → record { at : ℕ; inside : at ∈ (xs ++ (v ∷ [])); is : cond b x hi ≡ coord points axis at; most : (w : ℕ) → w ∈ (xs ++ (v ∷ [])) → T (le (coord points axis w) (cond b x hi)) }
@@ -74,7 +80,7 @@ module _ (points : List Float) (axis : ℕ) (xs : List ℕ) (lo hi : Float) (t :
     at = t .high;
     inside = in-left (t .high) xs (v ∷ []) (t .high-in);
     is = t .high-is;
-    most = λ w h. ⊎-elim (t .greatest w) (λ (g : w ∈ (v ∷ [])). rw (in-one w v g) (le-of-not-lt hi x H X e)) (in-either w xs (v ∷ []) h);
+    most = λ w h. ⊎-elim (t .greatest w) (λ (g : w ∈ (v ∷ [])). rw (in-one w v g) (le-of-not-lt hi x (high-number t) X e)) (in-either w xs (v ∷ []) h);
   }
 
   plain-snoc : Plain points axis (xs ++ (v ∷ [])) (smaller lo x) (larger hi x)
@@ -87,11 +93,8 @@ module _ (points : List Float) (axis : ℕ) (xs : List ℕ) (lo hi : Float) (t :
 plain-more : (points : List Float) (axis : ℕ) (part : List ℕ) (lo hi lo' hi' : Float) (k : ℕ) → Ready points part → axis < 2 → Plain points axis (take k part) lo hi → k < length part
     → lo' ≡ smaller lo (coord points axis (getD part k 0)) → hi' ≡ larger hi (coord points axis (getD part k 0)) → Plain points axis (take (k + 1) part) lo' hi'
 plain-more points axis part lo hi lo' hi' k R a t h e f =
-    let F = fit-front points axis part k R a in
-    let N = fit-number points axis (take k part) F in
     let X = known-number points axis (getD part k 0) (record { all-finite = R .all-finite; axes = a; inside = ready-index points part R k h }) in
-    rw (add-one, take-suc part k 0 h, e, f)
-    (plain-snoc points axis (take k part) lo hi t (rw (t .low-is) (N (t .low) (t .low-in))) (rw (t .high-is) (N (t .high) (t .high-in))) (getD part k 0) X)
+    rw (add-one, take-suc part k 0 h, e, f) (plain-snoc points axis (take k part) lo hi t (getD part k 0) X)
 
 -- ---- the loop over a part
 pub record Looked (points : List Float) (part : List ℕ) (k : ℕ) (x0 x1 y0 y1 : Float) : Type 0 where
@@ -130,98 +133,116 @@ module _ (points : List Float) (part : List ℕ) (R : Ready points part) where
         record { x = subst (λ (l : List ℕ). Plain points 0 l x0 x1) e (S .x); y = subst (λ (l : List ℕ). Plain points 1 l y0 y1) e (S .y) }
 
 -- ---- the two orders
+abbrev plus-zero : ℕ
+plus-zero = 0
+
+abbrev minus-zero : ℕ
+minus-zero = 0x8000_0000_0000_0000
+
+zeros-in-order : key-bits minus-zero ≤ key-bits plus-zero
+unfolding key-bits
+zeros-in-order = le-of-lt (lit< tt)
+
+zero-bits : (s : Bool) (m : ℕ) (e d : ℤ) → m * up e * down d ≡ 0 → toBits binary64 (fin s m e) ≡ toBits binary64 (fin s 0 (pos 0))
+zero-bits s m e d h = same-bits binary64 s m 0 e d (omega arith) ∙ same-bits binary64 s 0 0 d (pos 0) (omega arith)
+
 -- numbers that compare equal and differ in sign are the two zeros
-no-factor : (a d : ℕ) → 0 < d → a * d ≡ 0 → a ≡ 0
-no-factor zero d D h = refl
-no-factor (suc a) d D h = absurd (lt-irrefl 0 (subst (λ (k : ℕ). 0 < k) h (mul-pos (zero-lt-suc a) D)))
+zeros : (x y : Float) → T (eq x y) → T (negative x) → T (not (negative y)) → (toBits binary64 x ≡ minus-zero) × (toBits binary64 y ≡ plus-zero)
+unfolding eq
+zeros (inf true) nan h p q = absurd h
+zeros (inf true) (inf false) h p q = absurd h
+zeros (inf true) (fin t n d) h p q = absurd h
+zeros (fin true m e) nan h p q = absurd h
+zeros (fin true m e) (inf t) h p q = absurd h
+zeros (fin true m e) (fin false n d) h p q =
+    let a = m * up e * down d in
+    let b = n * up d * down e in
+    let z = eqb→eq a 0 (and-r (eqb a b) (eqb a 0) h) in
+    let w = eqb→eq a b (and-l (eqb a b) (eqb a 0) h) in
+    (zero-bits true m e d z ∙ unfold toBits in refl, zero-bits false n d e (sym w ∙ z) ∙ unfold toBits in refl)
 
-to-eqb : (a b : ℕ) → a ≡ b → T (eqb a b)
-to-eqb a b p = eq→eqb p
-
-zero-left : (x y : Float) → T (eq x y) → T (negative x) → T (not (negative y)) → T (is-zero x)
-unfolding eq ofBits
-zero-left (inf true) nan h p q = absurd h
-zero-left (inf true) (inf false) h p q = absurd h
-zero-left (inf true) (fin t n d) h p q = absurd h
-zero-left (fin true m e) nan h p q = absurd h
-zero-left (fin true m e) (inf t) h p q = absurd h
-zero-left (fin true m e) (fin false n d) h p q =
-    let a = m * up e in
-    let b = n * up d in
-    let z = eqb→eq (a * down d) 0 (and-r (eqb (a * down d) (b * down e)) (eqb (a * down d) 0) h) in
-    let i = no-factor a (down d) (down-pos d) z in
-    and-i (eqb (a * 1) (0 * down e)) (eqb (a * 1) 0) (to-eqb (a * 1) (0 * down e) (omega arith)) (to-eqb (a * 1) 0 (omega arith))
-
-zero-right : (x y : Float) → T (eq x y) → T (negative x) → T (not (negative y)) → T (is-zero y)
-unfolding eq ofBits
-zero-right (inf true) nan h p q = absurd h
-zero-right (inf true) (inf false) h p q = absurd h
-zero-right (inf true) (fin t n d) h p q = absurd h
-zero-right (fin true m e) nan h p q = absurd h
-zero-right (fin true m e) (inf t) h p q = absurd h
-zero-right (fin true m e) (fin false n d) h p q =
-    let a = m * up e in
-    let b = n * up d in
-    let w = eqb→eq (a * down d) (b * down e) (and-l (eqb (a * down d) (b * down e)) (eqb (a * down d) 0) h) in
-    let z = eqb→eq (a * down d) 0 (and-r (eqb (a * down d) (b * down e)) (eqb (a * down d) 0) h) in
-    let i = no-factor b (down e) (down-pos e) (sym w ∙ z) in
-    and-i (eqb (b * 1) (0 * down d)) true (to-eqb (b * 1) (0 * down d) (omega arith)) tt
-
--- x stands before y by totalOrder and not as a number: both are zeros
-before-zeros : (x y : Float) → T (le y x) → T (total-lt x y) → T (is-zero x) × T (is-zero y)
+-- x stands before y by totalOrder and not as a number: they are -0 and +0
+before-zeros : (x y : Float) → T (le y x) → T (total-lt x y) → (toBits binary64 x ≡ minus-zero) × (toBits binary64 y ≡ plus-zero)
 unfolding total-lt
 before-zeros x y h k =
     let s = negative x && not (negative y) in
     let j = or-right (lt x y) (eq x y && s) (λ (l : T (lt x y)). lt-not-le x y l h) k in
-    let e = and-l (eq x y) s j in
-    let p = and-l (negative x) (not (negative y)) (and-r (eq x y) s j) in
-    let q = and-r (negative x) (not (negative y)) (and-r (eq x y) s j) in
-    (zero-left x y e p q, zero-right x y e p q)
+    let r = and-r (eq x y) s j in
+    zeros x y (and-l (eq x y) s j) (and-l (negative x) (not (negative y)) r) (and-r (negative x) (not (negative y)) r)
   where
     or-right : (a b : Bool) → (T a → ⊥) → T (a || b) → T b
     or-right true b n t = absurd (n tt)
     or-right false b n t = t
 
--- one of the two is no zero: they are in order by both
-key-of-le : (x y : Float) → T (fits binary64 x) → T (fits binary64 y) → T (le x y) → (T (is-zero y) × T (is-zero x) → ⊥) → key x ≤ key y
-key-of-le x y p q h n = go (ltb (key y) (key x)) refl
+-- in order as numbers: by totalOrder too, unless they are +0 and -0
+key-of-le : (x y : Float) → T (fits binary64 x) → T (fits binary64 y) → T (le x y)
+    → (key x ≤ key y) ⊎ ((toBits binary64 x ≡ plus-zero) × (toBits binary64 y ≡ minus-zero))
+key-of-le x y p q h = go (ltb (key y) (key x)) refl
   where
-    go : (b : Bool) → ltb (key y) (key x) ≡ b → key x ≤ key y
-    go true e = absurd (n (before-zeros y x h (subst T (key-total y x (le-right x y h) (le-left x y h) q p) (rw e tt))))
-    go false e = ltb-false (key y) (key x) e
+    go : (b : Bool) → ltb (key y) (key x) ≡ b → (key x ≤ key y) ⊎ ((toBits binary64 x ≡ plus-zero) × (toBits binary64 y ≡ minus-zero))
+    go true e = let z = before-zeros y x h (subst T (key-total y x (le-right x y h) (le-left x y h) q p) (rw e tt)) in inr (z .1, z .0)
+    go false e = inl (ltb-false (key y) (key x) e)
 
--- ---- the plain box is the tight one
+-- ---- the scan for a zero
+abbrev pub Missed : List Float → ℕ → List ℕ → ℕ → ℕ → Type 0
+Missed points axis part sought k = (i : ℕ) → i < k → toBits binary64 (coord points axis (getD part i 0)) ≡ sought → ⊥
+
+module _ (points : List Float) (axis : ℕ) (part : List ℕ) (sought k : ℕ) (M : Missed points axis part sought k) where
+  pub missed-more : (toBits binary64 (coord points axis (getD part k 0)) ≡ sought → ⊥) → Missed points axis part sought (k + 1)
+  missed-more n i h = let l : i ≤ k = omega arith in ⊎-elim (λ (e : i ≡ k). rw e n) (M i) (eq-or-lt-of-le l)
+
+  pub missed-all : length part ≤ k → (v : ℕ) → v ∈ part → toBits binary64 (coord points axis v) ≡ sought → ⊥
+  missed-all h v g e = let p = place v part g in M (p .at) (omega (arith, p .inside)) (rw (p .is) e)
+
+-- ---- with the zeros settled, the plain box is the tight one
 module _ (points : List Float) (part : List ℕ) (fit : (k : ℕ) → T (fits binary64 (getD points k nan))) where
-  tight-of : (axis : ℕ) (lo hi : Float) → Plain points axis part lo hi → is-zero lo ≡ false → is-zero hi ≡ false → Tight points axis part lo hi
-  tight-of axis lo hi t l h = record {
-    low = t .low;
-    low-in = t .low-in;
-    low-is = t .low-is;
-    least = λ v g. key-of-le lo (coord points axis v) (rw (t .low-is) (fit (2 * t .low + axis))) (fit (2 * v + axis)) (t .least v g)
-        (λ z. subst T l (z .1));
-    high = t .high;
-    high-in = t .high-in;
-    high-is = t .high-is;
-    greatest = λ v g. key-of-le (coord points axis v) hi (fit (2 * v + axis)) (rw (t .high-is) (fit (2 * t .high + axis))) (t .greatest v g)
-        (λ z. subst T h (z .0));
-  }
+  module _ (axis : ℕ) (lo hi : Float) (t : Plain points axis part lo hi) where
+    low-by-key : (v : ℕ) → v ∈ part → (key lo ≤ key-at points axis v) ⊎ ((toBits binary64 lo ≡ plus-zero) × (toBits binary64 (coord points axis v) ≡ minus-zero))
+    low-by-key v g = key-of-le lo (coord points axis v) (rw (t .low-is) (fit (2 * t .low + axis))) (fit (2 * v + axis)) (t .least v g)
 
-  pub box-of-plain : (b : Bounds) → PlainBox points part b → on-zero b ≡ false → Box points part (own-of b)
-  unfolding on-zero
-  box-of-plain b t z =
-      let y1 = is-zero (b .«max_y») in
-      let y0 = is-zero (b .«min_y») in
-      let x1 = is-zero (b .«max_x») in
-      let x0 = is-zero (b .«min_x») in
-      let three = neither ((x0 || x1) || y0) y1 z in
-      let two = neither (x0 || x1) y0 (three .0) in
-      let one = neither x0 x1 (two .0) in
-      record {
-        six = refl;
-        x = tight-of 0 (b .«min_x») (b .«max_x») (t .x) (one .0) (one .1);
-        y = tight-of 1 (b .«min_y») (b .«max_y») (t .y) (two .1) (three .1);
-      }
-    where
-      neither : (p q : Bool) → (p || q) ≡ false → (p ≡ false) × (q ≡ false)
-      neither true q e = absurd (subst T e tt)
-      neither false q e = (refl, e)
+    high-by-key : (v : ℕ) → v ∈ part → (key-at points axis v ≤ key hi) ⊎ ((toBits binary64 (coord points axis v) ≡ plus-zero) × (toBits binary64 hi ≡ minus-zero))
+    high-by-key v g = key-of-le (coord points axis v) hi (fit (2 * v + axis)) (rw (t .high-is) (fit (2 * t .high + axis))) (t .greatest v g)
+
+    low-end : {r : Float} → Settled points axis part lo plus-zero minus-zero r → record { at : ℕ; inside : at ∈ part; is : r ≡ coord points axis at; least : (v : ℕ) → v ∈ part → key r ≤ key-at points axis v }
+    low-end (kept n) = record {
+      at = t .low;
+      inside = t .low-in;
+      is = t .low-is;
+      least = λ v g. ⊎-elim (λ k. k) (λ z. absurd (n (z .0) v g (z .1))) (low-by-key v g);
+    }
+    low-end (turned w e g s) = record {
+      at = w;
+      inside = g;
+      is = refl;
+      least = λ v h. ⊎-elim (λ (k : key lo ≤ key-at points axis v). omega (arith, zeros-in-order, ap key-bits e, ap key-bits s)) (λ z. le-of-eq (ap key-bits (s ∙ sym (z .1)))) (low-by-key v h);
+    }
+
+    high-end : {r : Float} → Settled points axis part hi minus-zero plus-zero r → record { at : ℕ; inside : at ∈ part; is : r ≡ coord points axis at; most : (v : ℕ) → v ∈ part → key-at points axis v ≤ key r }
+    high-end (kept n) = record {
+      at = t .high;
+      inside = t .high-in;
+      is = t .high-is;
+      most = λ v g. ⊎-elim (λ k. k) (λ z. absurd (n (z .1) v g (z .0))) (high-by-key v g);
+    }
+    high-end (turned w e g s) = record {
+      at = w;
+      inside = g;
+      is = refl;
+      most = λ v h. ⊎-elim (λ (k : key-at points axis v ≤ key hi). omega (arith, zeros-in-order, ap key-bits e, ap key-bits s)) (λ z. le-of-eq (ap key-bits (z .0 ∙ sym s))) (high-by-key v h);
+    }
+
+    tight-of : {p q : Float} → Settled points axis part lo plus-zero minus-zero p → Settled points axis part hi minus-zero plus-zero q → Tight points axis part p q
+    tight-of s u =
+        let l = low-end s in
+        let h = high-end u in
+        record { low = l .at; low-in = l .inside; low-is = l .is; least = l .least; high = h .at; high-in = h .inside; high-is = h .is; greatest = h .most }
+
+  pub box-of-plain : (b : Bounds) (x0 x1 y0 y1 : Float) → PlainBox points part b
+      → Settled points 0 part (b .«min_x») plus-zero minus-zero x0 → Settled points 0 part (b .«max_x») minus-zero plus-zero x1
+      → Settled points 1 part (b .«min_y») plus-zero minus-zero y0 → Settled points 1 part (b .«max_y») minus-zero plus-zero y1
+      → Box points part (b .cx ∷ b .cy ∷ x0 ∷ x1 ∷ y0 ∷ y1 ∷ [])
+  box-of-plain b x0 x1 y0 y1 t p q r s = record {
+    six = refl;
+    x = tight-of 0 (b .«min_x») (b .«max_x») (t .x) p q;
+    y = tight-of 1 (b .«min_y») (b .«max_y») (t .y) r s;
+  }

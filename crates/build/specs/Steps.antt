@@ -1,25 +1,22 @@
 -- What the inner functions of the build ask and leave. The promise of the build itself needs none of this.
 --   Number x      x is no NaN
---   low-of a b    the lower of two by totalOrder
---   high-of a b   the higher
 --   smaller a b   the lesser of two by the order of numbers; the greater is `larger`
 --   Plain points axis part lo hi   lo and hi are coordinates of the part's points, and as a number none is below lo or above hi
 --   PlainBox points part b         so are the ends of b on both axes
---   is-zero x     x is a zero, of either sign
---   on-zero b     an end of b is a zero
+--   Settled points axis part end had sought r   r is `end`, unless its bits are `had` and a coordinate of the part's points has
+--                 the bits `sought`: then r is such a coordinate
 --   own-of b      the six floats of a node
 --   Ready points part   a part to build over: it has entries, each a point and none twice; all points are finite
 --   Room leaf node start count boxes links   room for the nodes over so many points, in slices of these lengths
 --   Raised ..     the subtree over a part stands in the front of the two node slices; the rest of them is as it was
 use mathlib.Core.Path.{_≡_}
 use Prim.Native.Nat.{ℕ, _+_, _*_, _^_, _<_, _≤_}
-use mathlib.Core.Bool.{Bool, cond, not, _||_}
+use mathlib.Core.Bool.{cond, not}
 use mathlib.Core.List.{List, [], _∷_}
 use lib.ListN.{length, take, drop}
-use lib.Dec.{T, ltb}
-use lib.Ieee.{Float, binary64, isNan, le, lt, eq, ofBits}
+use lib.Dec.{T}
+use lib.Ieee.{Float, binary64, isNan, le, lt, toBits}
 use Rattle.distance.specs.declared.Bounds.{Bounds}
-use Rattle.distance.specs.TotalOrder.{key}
 use Rattle.tree.specs.Points.{size, AllFinite}
 use Rattle.tree.specs.Count.{nodes}
 use Rattle.tree.specs.Accepted.{times}
@@ -29,12 +26,6 @@ use Rattle.build.specs.Built.{Subtree}
 
 abbrev pub Number : Float → Type 0
 Number x = T (not (isNan x))
-
-unfoldable pub low-of : Float → Float → Float
-low-of a b = cond (ltb (key b) (key a)) b a
-
-unfoldable pub high-of : Float → Float → Float
-high-of a b = cond (ltb (key a) (key b)) b a
 
 unfoldable pub smaller : Float → Float → Float
 smaller a b = cond (lt b a) b a
@@ -53,11 +44,11 @@ pub record PlainBox (points : List Float) (part : List ℕ) (b : Bounds) : Type 
   pub x : Plain points 0 part (b .«min_x») (b .«max_x»)
   pub y : Plain points 1 part (b .«min_y») (b .«max_y»)
 
-abbrev pub is-zero : Float → Bool
-is-zero x = eq x (ofBits binary64 0)
-
-unfoldable pub on-zero : Bounds → Bool
-on-zero b = ((is-zero (b .«min_x») || is-zero (b .«max_x»)) || is-zero (b .«min_y»)) || is-zero (b .«max_y»)
+pub data Settled (points : List Float) (axis : ℕ) (part : List ℕ) (end : Float) (had sought : ℕ) : Float → Type 0 where
+  kept : (toBits binary64 end ≡ had → (v : ℕ) → v ∈ part → toBits binary64 (coord points axis v) ≡ sought → ⊥)
+      → Settled points axis part end had sought end
+  turned : (v : ℕ) → toBits binary64 end ≡ had → v ∈ part → toBits binary64 (coord points axis v) ≡ sought
+      → Settled points axis part end had sought (coord points axis v)
 
 abbrev pub own-of : Bounds → List Float
 own-of b = b .cx ∷ b .cy ∷ b .«min_x» ∷ b .«max_x» ∷ b .«min_y» ∷ b .«max_y» ∷ []

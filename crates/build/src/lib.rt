@@ -18,13 +18,7 @@ ghost use Rattle.distance.specs.Distance.{larger};
 ghost use Rattle.tree.specs.Accepted.{tree};
 ghost use Rattle.build.specs.Built.{Box, axis-of, Each, Built, needed};
 ghost use Rattle.build.specs.Outcome.{told, Given, Due, Outcome};
-ghost use Rattle.build.specs.Steps.{Number, low-of, high-of, smaller, PlainBox, on-zero, own-of, Ready, Room, Raised};
-
-// The least and the greatest of some coordinates, by totalOrder.
-pub struct Span {
-    pub lo: f64,
-    pub hi: f64,
-}
+ghost use Rattle.build.specs.Steps.{Number, smaller, PlainBox, Settled, own-of, Ready, Room, Raised};
 
 // What a build comes to: a tree of so many nodes, or a refusal's number and detail.
 pub enum Building {
@@ -33,80 +27,6 @@ pub enum Building {
 }
 
 // ---- the box of a part
-
-// The lower of two by totalOrder. The order of numbers settles it nearly always; the key, only where they may be equal.
-fn low_of(a: f64, b: f64) -> f64
-    requires { ⌜ Number a × Number b ⌝ }
-    ensures { λ r. ⌜ r ≡ low-of a b ⌝ }
-{
-    if a < b {
-        return a;
-    }
-    if distance::total_key(b) < distance::total_key(a) {
-        b
-    } else {
-        a
-    }
-}
-
-// The higher of two.
-fn high_of(a: f64, b: f64) -> f64
-    requires { ⌜ Number a × Number b ⌝ }
-    ensures { λ r. ⌜ r ≡ high-of a b ⌝ }
-{
-    if b < a {
-        return a;
-    }
-    if distance::total_key(a) < distance::total_key(b) {
-        b
-    } else {
-        a
-    }
-}
-
-fn widen(s: Span, x: f64) -> Span
-    requires { ⌜ Number (s .lo) × (Number (s .hi) × Number x) ⌝ }
-    ensures { λ r. ⌜ (r .lo ≡ low-of (s .lo) x) × (r .hi ≡ high-of (s .hi) x) ⌝ }
-{
-    let lo = low_of(s.lo, x);
-    let hi = high_of(s.hi, x);
-    Span { lo, hi }
-}
-
-// The tight box of a part, by totalOrder throughout, and the mean of its points.
-fn exact_box(points: &[f64], part: &[u32]) -> Bounds
-    requires { ⌜ Ready (now points) (now part) ⌝ }
-    requires { ⌜ length (now part) < 2 ^ 32 ⌝ }
-    ensures { λ r. ⌜ Box (now (points .entry)) (now (part .entry)) (own-of r) ⌝ }
-{
-    let f = 2 * (part[0] as usize);
-    let fx = points[f];
-    let fy = points[f + 1];
-    let mut sx = fx;
-    let mut sy = fy;
-    let mut xs = Span { lo: fx, hi: fx };
-    let mut ys = Span { lo: fy, hi: fy };
-    let mut k = 1;
-    while k < part.len() {
-        let i = 2 * (part[k] as usize);
-        let x = points[i];
-        let y = points[i + 1];
-        sx = sx + x;
-        sy = sy + y;
-        xs = widen(xs, x);
-        ys = widen(ys, y);
-        k += 1;
-    }
-    let n = (part.len() as u32) as f64;
-    Bounds {
-        cx: sx / n,
-        cy: sy / n,
-        min_x: xs.lo,
-        max_x: xs.hi,
-        min_y: ys.lo,
-        max_y: ys.hi,
-    }
-}
 
 // The lesser and the greater of two by the order of numbers alone: each one instruction, without a jump.
 fn smaller(a: f64, b: f64) -> f64
@@ -160,25 +80,52 @@ fn plain_box(points: &[f64], part: &[u32]) -> Bounds
     }
 }
 
-// Whether an end of the box is a zero, of either sign.
-fn on_zero(b: Bounds) -> bool
-    ensures { λ r. ⌜ r ≡ on-zero b ⌝ }
+// The bits of the two zeros: level as numbers, and by totalOrder -0 is the lower.
+const PLUS_ZERO: u64 = 0;
+
+const MINUS_ZERO: u64 = 0x8000_0000_0000_0000;
+
+// An end of the box by totalOrder, from the end by the order of numbers: where that is the zero `had`, and a coordinate of
+// the part is the other zero, `sought`, it is the other one.
+fn zero_end(points: &[f64], part: &[u32], axis: usize, end: f64, had: u64, sought: u64) -> f64
+    requires { ⌜ Ready (now points) (now part) ⌝ }
+    requires { ⌜ (axis < 2) × Number end ⌝ }
+    ensures { λ r. ⌜ Settled (now (points .entry)) axis (now (part .entry)) end had sought r ⌝ }
 {
-    b.min_x == 0.0 || b.max_x == 0.0 || b.min_y == 0.0 || b.max_y == 0.0
+    if f64::to_bits(end) != had {
+        return end;
+    }
+    let mut k = 0;
+    while k < part.len() {
+        let x = points[2 * (part[k] as usize) + axis];
+        if f64::to_bits(x) == sought {
+            return x;
+        }
+        k += 1;
+    }
+    end
 }
 
 // The tight box of a part, and the mean of its points. The order of numbers finds the ends without a jump, and differs
-// from totalOrder in the two zeros alone: only where an end is a zero are they sought again, by totalOrder.
+// from totalOrder in the two zeros alone.
 fn box_of(points: &[f64], part: &[u32]) -> Bounds
     requires { ⌜ Ready (now points) (now part) ⌝ }
     requires { ⌜ length (now part) < 2 ^ 32 ⌝ }
     ensures { λ r. ⌜ Box (now (points .entry)) (now (part .entry)) (own-of r) ⌝ }
 {
     let b = plain_box(points, part);
-    if on_zero(b) {
-        return exact_box(points, part);
+    let min_x = zero_end(points, part, 0, b.min_x, PLUS_ZERO, MINUS_ZERO);
+    let max_x = zero_end(points, part, 0, b.max_x, MINUS_ZERO, PLUS_ZERO);
+    let min_y = zero_end(points, part, 1, b.min_y, PLUS_ZERO, MINUS_ZERO);
+    let max_y = zero_end(points, part, 1, b.max_y, MINUS_ZERO, PLUS_ZERO);
+    Bounds {
+        cx: b.cx,
+        cy: b.cy,
+        min_x,
+        max_x,
+        min_y,
+        max_y,
     }
-    b
 }
 
 // X, unless the box is higher than it is wide.
