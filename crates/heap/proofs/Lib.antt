@@ -1,5 +1,4 @@
 -- Laws of the heap that queries cite.
-pub mod Rising
 pub mod Steps
 pub mod Pairs
 pub mod Settles

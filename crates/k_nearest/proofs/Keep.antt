@@ -21,7 +21,8 @@ use Rattle.search.specs.Order.{before, point, left-nearer}
 use Rattle.search.specs.declared.Best.{Best}
 use Rattle.search.proofs.Rank.{Good, rank, before-is, same-rank, point-good, far-point}
 use Rattle.search.proofs.Whole.{Fair}
-use Rattle.search.proofs.Insert.{Each, each-map, each-take, ins, ins-comm, take-ins, each-ins, Sorted, sorted-take, sorted-ins, ins-past}
+use Rattle.tree.proofs.Each.{Each, each-map, each-take}
+use Rattle.tree.proofs.Insert.{ins, ins-comm, take-ins, each-ins, Sorted, sorted-take, sorted-ins, ins-past}
 use Rattle.k_nearest.specs.Scan.{insert, keep}
 
 abbrev pub last : Best → List Best → Best

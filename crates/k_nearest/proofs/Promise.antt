@@ -31,7 +31,7 @@ use Rattle.search.specs.declared.Best.{Best}
 use Rattle.search.specs.declared.Found.{Found}
 use Rattle.search.proofs.Whole.{Fair, Ends, walk-is-plain}
 use Rattle.search.proofs.Own.{After, walk-after}
-use Rattle.search.proofs.Insert.{Each}
+use Rattle.tree.proofs.Each.{Each}
 use Rattle.search.proofs.Written.{Held}
 use Rattle.search.proofs.Answered.{answers-unique}
 use Rattle.heap.specs.Heap.{blank}

@@ -19,14 +19,15 @@ use Rattle.search.specs.Order.{before, point}
 use Rattle.search.specs.declared.Best.{Best}
 use Rattle.search.proofs.Whole.{Ends, walk-is-plain}
 use Rattle.search.proofs.Rank.{Good, rank, before-is, point-good, rank-one}
-use Rattle.search.proofs.Insert.{Each, ins}
+use Rattle.tree.proofs.Each.{Each, each-at}
+use Rattle.tree.proofs.Insert.{ins}
 use Rattle.search.proofs.Alike.{Like, Alike, walk-alike}
 use Rattle.heap.specs.Heap.{heap-sort, offer, blank}
 use Rattle.tree.specs.Entries.{Same, _∈_}
 use Rattle.tree.proofs.Entries.{has-at, same-sym, from}
-use Rattle.heap.proofs.Rising.{number, sort, sort-length, sort-same, each-in}
+use Rattle.tree.proofs.Rising.{number, sort, sort-length, sort-same, each-in}
 use Rattle.heap.proofs.Unload.{heap-sorts}
-use Rattle.heap.proofs.Each.{each-at, heap-sort-size, heap-sort-each, offer-each}
+use Rattle.heap.proofs.Each.{heap-sort-size, heap-sort-each, offer-each}
 use Rattle.heap.proofs.Image.{image, image-length, image-at, image-take, image-ins, image-one, heap-sort-image, offer-image}
 use Rattle.heap.proofs.Least.{Least, top-in, offer-sorts, offer-least}
 use Rattle.k_nearest.specs.Scan.{keep}

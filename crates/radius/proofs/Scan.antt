@@ -27,7 +27,7 @@ use Rattle.search.specs.Order.{point}
 use Rattle.search.specs.Refusal.{refusal, Told, told}
 use Rattle.search.specs.declared.Found.{Found}
 use Rattle.search.proofs.Unrefused.{refusal-finite}
-use Rattle.search.proofs.Insert.{ins, ins-comm}
+use Rattle.tree.proofs.Insert.{ins, ins-comm}
 use Rattle.search.proofs.Rank.{no-nan, point-good, far-point}
 use Rattle.search.proofs.Whole.{Fair, Ends, walk-is-plain}
 use Rattle.radius.specs.Within.{within, Reply, refuses, damaged, finds, reply-of, reply, says, Answered}

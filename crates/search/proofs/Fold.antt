@@ -9,18 +9,11 @@ use native.Mathlib.Omega.{arith}
 use lib.Dec.{eqb}
 use borrow.Author.Tests.{eqb-true, eqb-false, eq-eqb, ne-eqb}
 use Rattle.tree.specs.Accepted.{times}
+use Rattle.tree.proofs.Each.{Each, each-map}
 use Rattle.search.specs.Walk.{plain}
 
-abbrev pub All : (ℕ → Type 0) → List ℕ → Type 0
-All P [] = Unit
-All P (i ∷ is) = P i × All P is
-
-pub all-map : {P R : ℕ → Type 0} (l : List ℕ) → ((i : ℕ) → P i → R i) → All P l → All R l
-all-map [] f h = tt
-all-map (i ∷ is) f h = (f i (h .0), all-map is f (h .1))
-
 abbrev Below : ℕ → List ℕ → Type 0
-Below n l = All (λ i. i < n) l
+Below n l = Each (λ i. i < n) l
 
 later : (m i : ℕ) (is : List ℕ) → eqb m i ≡ false → 0 < times m (i ∷ is) → 0 < times m is
 later m i is e h = let k : 0 < cond false 1 0 + times m is = rw e at h in omega arith
@@ -30,11 +23,11 @@ abbrev remove : ℕ → List ℕ → List ℕ
 remove m [] = []
 remove m (i ∷ is) = cond (eqb m i) is (i ∷ remove m is)
 
-remove-all : (P : ℕ → Type 0) (m : ℕ) (l : List ℕ) → All P l → All P (remove m l)
+remove-all : (P : ℕ → Type 0) (m : ℕ) (l : List ℕ) → Each P l → Each P (remove m l)
 remove-all P m [] h = tt
 remove-all P m (i ∷ is) h = go (eqb m i) (remove-all P m is (h .1))
   where
-    go : (b : Bool) → All P (remove m is) → All P (cond b is (i ∷ remove m is))
+    go : (b : Bool) → Each P (remove m is) → Each P (cond b is (i ∷ remove m is))
     go true r = h .1
     go false r = (h .0, r)
 
@@ -88,7 +81,7 @@ module _ {S : Type 0} (n : ℕ) (next : S → ℕ → S) (Ok : S → Type 0)
   fold-all zero [] s o k h t = refl
   fold-all zero (i ∷ is) s o k h t = absurd (not-suc-le-zero (h .0))
   fold-all (suc m) l s o k h t =
-      let w : Below n l = all-map l (λ (i : ℕ) (g : i < suc m). wide i m g k) h in
+      let w : Below n l = each-map l (λ (i : ℕ) (g : i < suc m). wide i m g k) h in
       let p : 0 < times m l = pos (times m l) (t m (omega arith)) in
       let z : times m (remove m l) ≡ 0 = none (times m (remove m l)) (times m l) (remove-times m l p m) (t m (omega arith)) in
       pull m l s p o w

@@ -2,7 +2,6 @@
 pub mod Fold
 pub mod Whole
 pub mod Alike
-pub mod Insert
 pub mod Rank
 pub mod Own
 pub mod Steps

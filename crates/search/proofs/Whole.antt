@@ -12,7 +12,8 @@ use Rattle.tree.specs.Points.{x, y}
 use Rattle.tree.specs.Node.{bounds, mid, part}
 use Rattle.tree.specs.Accepted.{Tree, count, Finite, Holds, Boxed, Sound, leaf, branch, Grown}
 use Rattle.search.specs.Walk.{Search, Walk, damage, done, more, and-then, scan, leaf-scan, walk, walk-all, plain}
-use Rattle.search.proofs.Fold.{All, fold-ok, fold-swap, fold-all}
+use Rattle.tree.proofs.Each.{Each}
+use Rattle.search.proofs.Fold.{fold-ok, fold-swap, fold-all}
 use Rattle.distance.specs.declared.Bounds.{Bounds}
 
 -- What a query has to show: any two points may be swapped, a box that is passed over has only points that change nothing,
@@ -47,14 +48,14 @@ part-split l a m e h k g =
     place : (a m : ℕ) → a ≤ m → a + (m - a) ≡ m
     place a m h = omega arith
 
-take-all-of : (P : ℕ → Type 0) (l : List ℕ) (c a : ℕ) → a + c ≤ length l → ((k : ℕ) → a ≤ k → k < a + c → P (getD l k 0)) → All P (take c (drop a l))
+take-all-of : (P : ℕ → Type 0) (l : List ℕ) (c a : ℕ) → a + c ≤ length l → ((k : ℕ) → a ≤ k → k < a + c → P (getD l k 0)) → Each P (take c (drop a l))
 take-all-of P l zero a h f = tt
 take-all-of P l (suc c) a h f =
-    subst (λ (z : List ℕ). All P (take (suc c) z)) (sym (drop-cons l a 0 (omega arith)))
+    subst (λ (z : List ℕ). Each P (take (suc c) z)) (sym (drop-cons l a 0 (omega arith)))
     (f a (omega arith) (omega arith), take-all-of P l c (suc a) (omega arith) (λ k g m. f k (omega arith) (omega arith)))
 
-part-all : (P : ℕ → Type 0) (l : List ℕ) (a e : ℕ) → a ≤ e → e ≤ length l → ((k : ℕ) → a ≤ k → k < e → P (getD l k 0)) → All P (part l a e)
-part-all P l a e h k f = subst (λ (z : List ℕ). All P z) (sym (part-is l a e h k)) (take-all-of P l (e - a) a (omega arith) (λ j g m. f j g (omega arith)))
+part-all : (P : ℕ → Type 0) (l : List ℕ) (a e : ℕ) → a ≤ e → e ≤ length l → ((k : ℕ) → a ≤ k → k < e → P (getD l k 0)) → Each P (part l a e)
+part-all P l a e h k f = subst (λ (z : List ℕ). Each P z) (sym (part-is l a e h k)) (take-all-of P l (e - a) a (omega arith) (λ j g m. f j g (omega arith)))
 
 -- ---- walks
 module _ {S : Type 0} where
@@ -64,15 +65,15 @@ module _ {S : Type 0} where
   ends-then : (g m : S) (w : Walk S) (f : S → Walk S) → Ends m w → Ends g (f m) → Ends g (and-then w f)
   ends-then g m (done s n d) f e h = ends-more g n d (f s) (subst (λ (z : S). Ends g (f z)) (sym e) h)
 
-  scan-ends : (n : ℕ) (f : S → ℕ → S) (c : ℕ) (l : List ℕ) (s : S) → All (λ i. i < n) l → Ends (foldl f s l) (scan n f c s l)
+  scan-ends : (n : ℕ) (f : S → ℕ → S) (c : ℕ) (l : List ℕ) (s : S) → Each (λ i. i < n) l → Ends (foldl f s l) (scan n f c s l)
   scan-ends n f c [] s h = refl
   scan-ends n f c (i ∷ is) s h = rw (lt-ltb i n (h .0)) (ends-more (foldl f (f s i) is) 0 c (scan n f c (f s i) is) (scan-ends n f c is (f s i) (h .1)))
 
-  fold-same : (f g : S → ℕ → S) (l : List ℕ) (s : S) → All (λ i. (s : S) → f s i ≡ g s i) l → foldl f s l ≡ foldl g s l
+  fold-same : (f g : S → ℕ → S) (l : List ℕ) (s : S) → Each (λ i. (s : S) → f s i ≡ g s i) l → foldl f s l ≡ foldl g s l
   fold-same f g [] s h = refl
   fold-same f g (i ∷ is) s h = ap (λ (z : S). foldl f z is) (h .0 s) ∙ fold-same f g is (g s i) (h .1)
 
-  no-change : (Q : Search S) (l : List ℕ) (s : S) → All (λ i. Q .next s i ≡ s) l → foldl (Q .next) s l ≡ s
+  no-change : (Q : Search S) (l : List ℕ) (s : S) → Each (λ i. Q .next s i ≡ s) l → foldl (Q .next) s l ≡ s
   no-change Q [] s h = refl
   no-change Q (i ∷ is) s h = ap (λ (z : S). foldl (Q .next) z is) (h .0) ∙ no-change Q is s (h .1)
 
@@ -85,7 +86,7 @@ module _ {S : Type 0} (t : Tree) (Q : Search S) (Ok : S → Type 0) (F : Fair t 
   abbrev after : ℕ → ℕ → S → S
   after a e s = foldl (Q .next) s (part (t .indices) a e)
 
-  all-below : (a e : ℕ) → a ≤ e → e ≤ count t → All (λ i. i < count t) (part (t .indices) a e)
+  all-below : (a e : ℕ) → a ≤ e → e ≤ count t → Each (λ i. i < count t) (part (t .indices) a e)
   all-below a e h k = part-all (λ i. i < count t) (t .indices) a e h (omega arith) (λ j g m. below j (omega arith))
 
   after-ok : (a e : ℕ) (s : S) → a ≤ e → e ≤ count t → Ok s → Ok (after a e s)
@@ -113,7 +114,7 @@ module _ {S : Type 0} (t : Tree) (Q : Search S) (Ok : S → Type 0) (F : Fair t 
       l : List ℕ
       l = part (t .indices) a e
 
-      low : All (λ i. i < count t) l
+      low : Each (λ i. i < count t) l
       low = all-below a e (omega (arith, b .some)) k
 
       same : Q .whole (bounds (t .boxes) v) ≡ true → foldl (Q .add) s l ≡ after a e s

@@ -9,7 +9,7 @@ use lib.Ieee.{Float, binary64, fits}
 use Rattle.root.proofs.Unique.{root-unique}
 use Rattle.search.specs.Result.{Roots, none, more, Written}
 use Rattle.search.specs.declared.Best.{Best}
-use Rattle.search.proofs.Insert.{Each}
+use Rattle.tree.proofs.Each.{Each}
 
 -- every entry is a value of the format
 abbrev pub Held : List Float → Type 0

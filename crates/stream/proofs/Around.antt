@@ -20,8 +20,7 @@ use Rattle.search.specs.Result.{Roots, squares-of, indices-of}
 use Rattle.search.specs.declared.Best.{Best}
 use Rattle.search.specs.declared.Found.{Found}
 use Rattle.search.specs.declared.Found.the-variants.{Hits, Refused}
-use Rattle.search.proofs.Insert.{Each}
-use Rattle.rising.proofs.Sorting.{All}
+use Rattle.tree.proofs.Each.{Each}
 use Rattle.labels.specs.Labels.{hits as passing}
 use Rattle.radius.specs.Within as w
 use Rattle.radius.specs.Within.{within, Reply, reply, reply-of, finds, refuses, squares, RootsInFront, WithDistances}
@@ -130,7 +129,7 @@ module _ (t : Tree) (q : Coord) (radius : Float) (A : Accepted t) where
             (subst (λ (a : Reply). WithDistances (t .points) q a is₀ ds₀ r is ds)
             (ap (λ (b : Bool). cond b (cond (eqb (count t) 0) (finds []) (reply-of (outcome (walk-all t (within (t .points) q (sq radius)) [])))) (refuses k)) e) W))
 
-  points-unsigned : T (finite (q .x)) × T (finite (q .y)) → (l : List ℕ) → All (λ j. j < count t) l → Each Unsigned (map (point (t .points) q) l)
+  points-unsigned : T (finite (q .x)) × T (finite (q .y)) → (l : List ℕ) → Each (λ j. j < count t) l → Each Unsigned (map (point (t .points) q) l)
   points-unsigned f [] h = tt
   points-unsigned f (i ∷ l) h = (point-unsigned t q i A (f .0) (f .1) (h .0), points-unsigned f l (h .1))
 

@@ -15,7 +15,7 @@ use Rattle.search.specs.Result.{Roots, none, more, Written, indices-of, squares
 use Rattle.search.specs.declared.Best.{Best}
 use Rattle.search.specs.declared.Found.{Found}
 use Rattle.search.specs.declared.Found.the-variants.{Hits, Refused}
-use Rattle.search.proofs.Insert.{Each}
+use Rattle.tree.proofs.Each.{Each}
 use Rattle.search.proofs.Fronts.{roots-length}
 use Rattle.text.specs.Line.{Put, count-line, hit-lines}
 use Rattle.text.proofs.Laws.{short-count, short-hits, lines-same}

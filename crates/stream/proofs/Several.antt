@@ -13,7 +13,7 @@ use Rattle.tree.specs.Accepted.{Tree, tree, count, Accepted}
 use Rattle.search.specs.Refusal.{refusal}
 use Rattle.search.specs.Answer.{Answer, refused, hits}
 use Rattle.search.specs.declared.Best.{Best}
-use Rattle.search.proofs.Insert.{Each, each-map}
+use Rattle.tree.proofs.Each.{Each, each-map}
 use Rattle.k_nearest.specs.Scan.{nearest-k}
 use Rattle.k_nearest.specs.Query.{answer, scan-answer}
 use Rattle.k_nearest.proofs.Promise.{k-nearest-is-scan, hits-own}

@@ -5,3 +5,6 @@ pub mod NotFinite
 pub mod Sound
 pub mod Entries
 pub mod Swaps
+pub mod Each
+pub mod Insert
+pub mod Rising
