@@ -8,59 +8,12 @@ use libc::STDOUT_FILENO;
 ghost use Prim.Native.Nat.{_+_, _*_, _^_, _<_, _≤_};
 ghost use lib.ListN.{length};
 
-fn digit(c: u8) -> u64
-    ensures { λ r. ⌜ r < 16 ⌝ }
-{
-    if c < 48 {
-        return 0;
-    }
-    if c < 58 {
-        return (c - 48) as u64;
-    }
-    if c < 65 {
-        return 0;
-    }
-    if c < 71 {
-        return (c - 55) as u64;
-    }
-    0
-}
-
-// The number that the 16 digits from a place on write.
-fn value(text: &[u8], at: usize) -> u64
-    requires { ⌜ at + 16 ≤ length (now text) ⌝ }
-{
-    let mut v: u64 = 0;
-    let mut k: usize = 0;
-    while k < 16 {
-        v = v % 0x1000_0000_0000_0000 * 16 + digit(text[at + k]);
-        k += 1;
-    }
-    v
-}
-
-// The same, or `most` where it is more.
+// The number that stands at a place, or `most` where it is more.
 fn up_to(text: &[u8], at: usize, most: usize) -> usize
-    requires { ⌜ at + 16 ≤ length (now text) ⌝ }
     ensures { λ r. ⌜ r ≤ most ⌝ }
 {
-    let v = value(text, at) as usize;
+    let v = patterns::word(text, at) as usize;
     if v < most { v } else { most }
-}
-
-// The float of a pattern; infinity for the patterns of what is not finite.
-fn float(b: u64) -> f64 {
-    if b % 0x8000_0000_0000_0000 / 0x10_0000_0000_0000 == 2047 {
-        return 1.0 / 0.0;
-    }
-    f64::from_bits(b)
-}
-
-fn pattern(x: f64) -> u64 {
-    if distance::is_finite(x) {
-        return f64::to_bits(x);
-    }
-    0x7ff0_0000_0000_0000
 }
 
 // The coordinates, from a place of the text on.
@@ -69,7 +22,7 @@ fn fill(text: &[u8], at: usize, points: &mut [f64])
 {
     let mut k = 0;
     while k < points.len() {
-        points[k] = float(value(text, at + 17 * k));
+        points[k] = patterns::float(patterns::word(text, at + 17 * k));
         k += 1;
     }
 }
@@ -99,7 +52,7 @@ fn print_number(n: u32) {
 }
 
 fn print_end(x: f64) {
-    io::print_hex(STDOUT_FILENO, pattern(x), 16);
+    io::print_hex(STDOUT_FILENO, patterns::pattern(x), 16);
     io::write_all(STDOUT_FILENO, b" ");
 }
 

@@ -5,48 +5,64 @@ use crate::recorded::next_line;
 use crate::recorded::says;
 use crate::recorded::says_float;
 use crate::recorded::up_to;
-use crate::recorded::word;
 use build::BallTreeBuilder;
 use build::Building;
 use dbscan::Labelling;
 use nearest::Nearest;
 use search::Found;
+ghost use mathlib.Core.Path.{_≡_};
+ghost use mathlib.Core.Bool.{true, cond};
+ghost use mathlib.Core.Logic.{_⊎_};
+ghost use Prim.Native.Nat.{_+_, _^_, _<_};
+ghost use lib.ListN.{length};
+ghost use Rattle.replay_answers.specs.Lines.{begins, Tallied};
 
-// How many were asked; and how much of the text is left where the first stands that came otherwise, 0 where none did.
+// How many lines of each letter were met; and how much of the text is left where the first stands that came otherwise, 0 where
+// none did.
 pub struct Tally {
-    pub maps: u32,
-    pub nearest: u32,
-    pub k_nearest: u32,
-    pub radius: u32,
-    pub labels: u32,
+    pub maps: usize,
+    pub nearest: usize,
+    pub k_nearest: usize,
+    pub radius: usize,
+    pub labels: usize,
     pub left: usize,
 }
 
-fn plus(n: u32, one: bool) -> u32 {
-    if one {
-        if n < 0xffff_ffff {
-            return n + 1;
-        }
-    }
-    n
+// After a line: how many coordinates the last map has, and whether the line came as recorded.
+struct Turn {
+    size: usize,
+    good: bool,
 }
 
-fn or_else(left: usize, good: bool, here: usize) -> usize {
+fn plus(n: usize, one: bool) -> usize
+    requires { ⌜ n + 1 < 2 ^ 64 ⌝ }
+    ensures { λ r. ⌜ r ≡ n + cond one 1 0 ⌝ }
+{
+    if one { n + 1 } else { n }
+}
+
+fn or_else(left: usize, good: bool, here: usize) -> usize
+    ensures { λ r. ⌜ (r ≡ left) ⊎ (r ≡ here) ⌝ }
+{
     if good {
         return left;
     }
     if left == 0 { here } else { left }
 }
 
-// The tally with one more of a kind.
-fn asked(t: Tally, kind: u8, good: bool, here: usize) -> Tally {
+// The tally with the line that begins at a place.
+fn asked(text: &[u8], at: usize, t: Tally, good: bool) -> Tally
+    requires { ⌜ (at < length (now text)) × ((begins (now text) at ≡ true) × Tallied (now text) at t) ⌝ }
+    ensures { λ r. ⌜ Tallied (now (text .entry)) (at + 1) r ⌝ }
+{
+    let kind = text[at];
     Tally {
         maps: plus(t.maps, kind == b'M'),
         nearest: plus(t.nearest, kind == b'N'),
         k_nearest: plus(t.k_nearest, kind == b'K'),
         radius: plus(t.radius, kind == b'R'),
         labels: plus(t.labels, kind == b'L'),
-        left: or_else(t.left, good, here),
+        left: or_else(t.left, good, text.len() - at),
     }
 }
 
@@ -158,7 +174,7 @@ fn radius_agrees(
 }
 
 fn same_labels(text: &[u8], n: usize, labels: &[u32]) -> bool {
-    if n as u64 != word(text, 36) {
+    if n as u64 != patterns::word(text, 36) {
         return false;
     }
     if n > labels.len() {
@@ -227,46 +243,6 @@ fn agrees(
     true
 }
 
-// The questions of a map, whose line is the first: up to the next map's.
-fn ask_all(
-    text: &[u8],
-    points: &[f64],
-    indices: &[u32],
-    boxes: &[f64],
-    links: &[u32],
-    before: Tally,
-) -> Tally {
-    let mut t = before;
-    let mut at = 0;
-    while at < text.len() {
-        at = next_line(text, at);
-        if at == text.len() {
-            return t;
-        }
-        let kind = text[at];
-        if kind == b'M' {
-            return t;
-        }
-        let good = agrees(&text[at..], kind, points, indices, boxes, links);
-        t = asked(t, kind, good, text.len() - at);
-    }
-    t
-}
-
-// A map's tree built, and its questions asked.
-fn replay_map(text: &[u8], points: &[f64], before: Tally) -> Tally {
-    let mut indices = [0u32; 512];
-    let mut boxes = [0.0; 6138];
-    let mut links = [0u32; 4092];
-    let builder = BallTreeBuilder::with_leaf_size(up_to(text, 2, 0xffff_ffff));
-    let answer = builder.build(points, &mut indices, &mut boxes, &mut links);
-    let Building::Nodes(_made) = answer else {
-        return asked(before, b'M', false, text.len());
-    };
-    let t = asked(before, b'M', true, text.len());
-    ask_all(text, points, &indices, &boxes, &links, t)
-}
-
 // The coordinates of a map, from the lines after the first.
 fn fill(text: &[u8], points: &mut [f64]) {
     let mut at = 36;
@@ -293,16 +269,73 @@ fn front(points: &[f64], c: usize) -> &[f64] {
     &points[0..c]
 }
 
-// The map whose line is the first.
-fn read_map(text: &[u8], before: Tally) -> Tally {
-    let mut points = [0.0; 1024];
-    fill(text, &mut points);
-    let n = up_to(text, 19, 512) as usize;
-    replay_map(text, front(&points, 2 * n), before)
+// The map whose line is the first, and its tree.
+fn read_map(
+    text: &[u8],
+    points: &mut [f64],
+    indices: &mut [u32],
+    boxes: &mut [f64],
+    links: &mut [u32],
+) -> Turn {
+    fill(text, points);
+    let size = 2 * up_to(text, 19, 512) as usize;
+    let builder = BallTreeBuilder::with_leaf_size(up_to(text, 2, 0xffff_ffff));
+    let answer = builder.build(front(points, size), indices, boxes, links);
+    let Building::Nodes(_made) = answer else {
+        return Turn { size, good: false };
+    };
+    Turn { size, good: true }
 }
 
-pub fn replay(text: &[u8]) -> Tally {
-    let mut t = Tally {
+// The line at the start of the text: a map is read, a question asked of the last one.
+fn turn_at(
+    text: &[u8],
+    kind: u8,
+    size: usize,
+    points: &mut [f64],
+    indices: &mut [u32],
+    boxes: &mut [f64],
+    links: &mut [u32],
+) -> Turn {
+    if kind == b'M' {
+        return read_map(text, points, indices, boxes, links);
+    }
+    let good = agrees(text, kind, front(points, size), indices, boxes, links);
+    Turn { size, good }
+}
+
+// Each line in turn, the last map and its tree being in the slices.
+fn replay_in(
+    text: &[u8],
+    points: &mut [f64],
+    indices: &mut [u32],
+    boxes: &mut [f64],
+    links: &mut [u32],
+    zero: Tally,
+) -> Tally
+    requires { ⌜ Tallied (now text) 0 zero ⌝ }
+    ensures { λ r. ⌜ Tallied (now (text .entry)) (length (now (text .entry))) r ⌝ }
+{
+    let mut t = zero;
+    let mut size = 0;
+    let mut at = 0;
+    while at < text.len() {
+        let turn = turn_at(&text[at..], text[at], size, points, indices, boxes, links);
+        size = turn.size;
+        t = asked(text, at, t, turn.good);
+        at = next_line(text, at);
+    }
+    t
+}
+
+pub fn replay(text: &[u8]) -> Tally
+    ensures { λ r. ⌜ Tallied (now (text .entry)) (length (now (text .entry))) r ⌝ }
+{
+    let mut points = [0.0; 1024];
+    let mut indices = [0u32; 512];
+    let mut boxes = [0.0; 6138];
+    let mut links = [0u32; 4092];
+    let zero = Tally {
         maps: 0,
         nearest: 0,
         k_nearest: 0,
@@ -310,12 +343,12 @@ pub fn replay(text: &[u8]) -> Tally {
         labels: 0,
         left: 0,
     };
-    let mut at = 0;
-    while at < text.len() {
-        if text[at] == b'M' {
-            t = read_map(&text[at..], t);
-        }
-        at = next_line(text, at);
-    }
-    t
+    replay_in(
+        text,
+        &mut points,
+        &mut indices,
+        &mut boxes,
+        &mut links,
+        zero,
+    )
 }

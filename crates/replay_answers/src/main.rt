@@ -7,7 +7,7 @@ mod recorded;
 use libc::STDIN_FILENO;
 use libc::STDOUT_FILENO;
 
-fn say(name: &[u8], count: u32) {
+fn say(name: &[u8], count: usize) {
     io::write_all(STDOUT_FILENO, name);
     io::print_decimal(STDOUT_FILENO, count as u64);
 }

@@ -1,3 +1,1 @@
-mod Text
-mod Patterns
 mod Tallies

@@ -4,19 +4,21 @@ use mathlib.Core.Path.{_≡_, refl, sym, ap, _∙_, subst}
 use mathlib.Core.Bool.{true}
 use mathlib.Core.Logic.{_⊎_, inl, inr}
 use mathlib.Core.List.{List}
-use Prim.Native.Nat.{ℕ, suc, _+_, _/_, _≤_, _<_}
+use Prim.Native.Nat.{ℕ, suc, _+_, _*_, _/_, _≤_, _<_}
 use native.Mathlib.Nat.{eq-or-lt-of-le, le-antisymm}
 use native.Mathlib.Omega.{arith}
 use lib.ListN.{length}
 use lib.Dec.{T, eqb, eqb→eq}
 use lib.Ieee.{Float, binary64, ofBits}
+use Rattle.patterns.specs.Digits.{word, IsPattern}
 use Rattle.root.specs.Root.{Root}
 use Rattle.root_vectors.specs.Vectors.{number, expected, Tallied}
 
-pub line-root : {x r : Float} (b p e : ℕ) → x ≡ ofBits binary64 b → Root x r → ofBits binary64 p ≡ r → eqb p e ≡ true → Root (ofBits binary64 b) (ofBits binary64 e)
-line-root {x} {r} b p e hx h hp q =
-    subst (λ (y : Float). Root y (ofBits binary64 e)) hx
-    (subst (λ (y : Float). Root x y) (sym hp ∙ ap (ofBits binary64) (eqb→eq p e (subst T (sym q) tt))) h)
+-- b and e are the words of line i, x the float of b, r its root, p the pattern of r
+pub line-root : {x r : Float} {b p e : ℕ} (s : List ℕ) (i : ℕ) → b ≡ word s (i * 34) → x ≡ ofBits binary64 b → Root x r → IsPattern r p → e ≡ word s (i * 34 + 17) → eqb p e ≡ true → Root (number s i) (expected s i)
+line-root {x} {r} {b} {p} {e} s i hb hx h hp he q =
+    subst (λ (y : Float). Root y (expected s i)) (hx ∙ ap (ofBits binary64) hb)
+    (subst (λ (y : Float). Root x y) (sym (hp .reads) ∙ ap (ofBits binary64) (eqb→eq p e (subst T (sym q) tt) ∙ he)) h)
 
 -- of the first i lines, `agree` agree
 pub record Seen (s : List ℕ) (agree i : ℕ) : Type 0 where

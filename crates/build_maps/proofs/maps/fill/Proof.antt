@@ -15,14 +15,14 @@ abbrev μ-loop : tie.MeasureT-loop
 loop-holds : tie.Need-loop-holds Inv-loop μ-loop
 loop-holds c = search needs
 
-mul-value : tie.Need-mul-value Inv-loop μ-loop
-mul-value c = search needs
+mul-word : tie.Need-mul-word Inv-loop μ-loop
+mul-word c = search needs
 
-add-value : tie.Need-add-value Inv-loop μ-loop
-add-value c = search needs
+add-word : tie.Need-add-word Inv-loop μ-loop
+add-word c = search needs
 
-value-requires : tie.Need-value-requires Inv-loop μ-loop
-value-requires c κs = search needs
+word-requires : tie.Need-word-requires Inv-loop μ-loop
+word-requires c κs = search needs
 
 float-requires : tie.Need-float-requires Inv-loop μ-loop
 float-requires c κs = search needs
@@ -55,9 +55,9 @@ fill-spec =
     Inv-loop
     μ-loop
     loop-holds
-    mul-value
-    add-value
-    value-requires
+    mul-word
+    add-word
+    word-requires
     float-requires
     mul-points
     slice-write-points

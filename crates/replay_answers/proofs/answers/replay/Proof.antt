@@ -1,59 +1,34 @@
--- `replay` is safe and ends: each turn goes on by a line. Assumes nothing.
-use Prim.Native.Nat.{_≤_, _-_}
-use lib.ListN.{length}
+-- `replay` meets its contract, by what its call ensures: of no line, nothing is counted (`Lines.antt`). Assumes nothing.
+use Rattle.replay_answers.proofs.Lines.{tallied-none}
 use borrow.Author.Needs.{needs}
 use Rattle.replay_answers.proofs.answers.replay.Statement.{statement}
 use Rattle.replay_answers.proofs.answers.replay.Tie as tie
 
-abbrev Inv-loop : tie.InvT-loop
-Inv-loop text t₀ at₀ t at = at ≤ length text
+slice-aggregate-replay-in : tie.Need-slice-aggregate-replay-in
+slice-aggregate-replay-in c = search needs
 
-abbrev μ-loop : tie.MeasureT-loop
-μ-loop text t₀ at₀ t at = length text - at
+slice-aggregate-replay-in-2 : tie.Need-slice-aggregate-replay-in-2
+slice-aggregate-replay-in-2 c = search needs
 
-loop-holds : tie.Need-loop-holds Inv-loop μ-loop
-loop-holds c = search needs
+slice-aggregate-replay-in-3 : tie.Need-slice-aggregate-replay-in-3
+slice-aggregate-replay-in-3 c = search needs
 
-shared-slice-read-if1 : tie.Need-shared-slice-read-if1 Inv-loop μ-loop
-shared-slice-read-if1 c = search needs
+slice-aggregate-replay-in-4 : tie.Need-slice-aggregate-replay-in-4
+slice-aggregate-replay-in-4 c = search needs
 
-sub-read-map : tie.Need-sub-read-map Inv-loop μ-loop
-sub-read-map c = search needs
+replay-in-requires : tie.Need-replay-in-requires
+replay-in-requires c κs = tallied-none _
 
-part-read-map-start : tie.Need-part-read-map-start Inv-loop μ-loop
-part-read-map-start c = search needs
-
-part-read-map-end : tie.Need-part-read-map-end Inv-loop μ-loop
-part-read-map-end c = search needs
-
-read-map-requires : tie.Need-read-map-requires Inv-loop μ-loop
-read-map-requires c κs = search needs
-
-next-line-requires : tie.Need-next-line-requires Inv-loop μ-loop
-next-line-requires c κs = search needs
-
-loop-less : tie.Need-loop-less Inv-loop μ-loop
-loop-less c = search needs
-
-loop-again : tie.Need-loop-again Inv-loop μ-loop
-loop-again c = search needs
-
-returns : tie.Need-returns Inv-loop μ-loop
+returns : tie.Need-returns
 returns c = search needs
 
 pub replay-spec : {M : Type 1} → statement M
 replay-spec =
     tie.close
     (tie.spec
-    Inv-loop
-    μ-loop
-    loop-holds
-    shared-slice-read-if1
-    sub-read-map
-    part-read-map-start
-    part-read-map-end
-    read-map-requires
-    next-line-requires
-    loop-less
-    loop-again
+    slice-aggregate-replay-in
+    slice-aggregate-replay-in-2
+    slice-aggregate-replay-in-3
+    slice-aggregate-replay-in-4
+    replay-in-requires
     returns)

@@ -1,5 +1,4 @@
 -- `agrees` meets its contract, by what its calls ensure (`line-root` of `Tallies.antt`). Assumes nothing.
-use mathlib.Core.Path.{sym}
 use Rattle.root_vectors.proofs.Tallies.{line-root}
 use borrow.Author.Needs.{needs}
 use Rattle.root_vectors.proofs.vectors.agrees.Statement.{statement}
@@ -8,8 +7,8 @@ use Rattle.root_vectors.proofs.vectors.agrees.Tie as tie
 mul-from : tie.Need-mul-from
 mul-from c = search needs
 
-value-requires : tie.Need-value-requires
-value-requires c κs = search needs
+word-requires : tie.Need-word-requires
+word-requires c κs = search needs
 
 float-requires : tie.Need-float-requires
 float-requires c κs = search needs
@@ -20,27 +19,28 @@ square-root-requires c κs = search needs
 pattern-requires : tie.Need-pattern-requires
 pattern-requires c κs = search needs
 
-add-value : tie.Need-add-value
-add-value c = search needs
+add-word : tie.Need-add-word
+add-word c = search needs
 
-value-requires-2 : tie.Need-value-requires-2
-value-requires-2 c κs = search needs
+word-requires-2 : tie.Need-word-requires-2
+word-requires-2 c κs = search needs
 
 returns : tie.Need-returns
 returns c =
     let p = c .before in
     let f = p .before .before in
-    λ q. rw (sym (f .before .value .ensures), sym (c .value2 .ensures)) (line-root (f .before .value .result) (p .pattern .result) (c .value2 .result) (f .float .ensures) (p .before .square-root .ensures) (p .pattern .ensures) q)
+    let a = f .before .before .before .args in
+    line-root (a .text .now) (a .i) (f .before .word .ensures) (f .float .ensures) (p .before .square-root .ensures) (p .pattern .ensures) (c .word2 .ensures)
 
 pub agrees-spec : {M : Type 1} → statement M
 agrees-spec =
     tie.close
     (tie.spec
     mul-from
-    value-requires
+    word-requires
     float-requires
     square-root-requires
     pattern-requires
-    add-value
-    value-requires-2
+    add-word
+    word-requires-2
     returns)

@@ -1,10 +1,9 @@
 -- `float` meets its contract, a NaN apart (`Patterns.antt`). Assumes nothing.
 use mathlib.Core.Path.{sym, _∙_}
-use Rattle.root.proofs.Floats.{over-zero}
-use Rattle.root_vectors.proofs.Patterns.{pattern-nan, pattern-no-nan}
+use Rattle.patterns.proofs.Patterns.{over-zero, pattern-nan, pattern-no-nan}
 use borrow.Author.Needs.{needs}
-use Rattle.root_vectors.proofs.vectors.float.Statement.{statement}
-use Rattle.root_vectors.proofs.vectors.float.Tie as tie
+use Rattle.patterns.proofs.float.Statement.{statement}
+use Rattle.patterns.proofs.float.Tie as tie
 
 returns : tie.Need-returns
 returns c = over-zero ∙ sym (pattern-nan (c .before .args .b) (c .if1 .taken))

@@ -1,9 +1,9 @@
 -- `digit` meets its contract, by where the byte lies (`Text.antt`). Assumes nothing.
-use Rattle.root_vectors.proofs.Text.{digit-low, digit-number, digit-between, digit-letter, digit-high}
+use Rattle.patterns.proofs.Text.{digit-low, digit-number, digit-between, digit-letter, digit-high}
 use mathlib.Core.Path.{sym}
 use borrow.Author.Needs.{needs}
-use Rattle.root_vectors.proofs.vectors.digit.Statement.{statement}
-use Rattle.root_vectors.proofs.vectors.digit.Tie as tie
+use Rattle.patterns.proofs.digit.Statement.{statement}
+use Rattle.patterns.proofs.digit.Tie as tie
 
 returns : tie.Need-returns
 returns c = sym (digit-low (c .before .args .c) (c .if1 .taken))

@@ -1,17 +1,17 @@
--- Hex digits, and what a row of them writes: k digits are below 16 ^ k. Assumes nothing.
+-- Hex digits, and what a row of them writes: k digits are below 16 ^ k, so sixteen fit a word. Assumes nothing.
 use mathlib.Core.Path.{_≡_, refl, ap, _∙_}
-use mathlib.Core.Bool.{true, false}
+use mathlib.Core.Bool.{Bool, true, false, cond}
 use mathlib.Core.List.{List}
 use Prim.Native.Nat.{ℕ, zero, suc, _+_, _-_, _*_, _^_, _≤_, _<_}
 use native.Mathlib.Nat.{not-le-of-lt, lt-of-not-le}
 use native.Mathlib.Numerals.{add-one}
 use native.Mathlib.Decide.{decLe}
 use native.Mathlib.Omega.{arith}
-use lib.Dec.{T, ltb, ltb→lt, lt→ltb, not-T}
+use lib.Dec.{T, ltb, leb, ltb→lt, lt→ltb, leb→le, le→leb, not-T}
 use lib.Pow.{pow-add, pow-mono}
-use lib.ListN.{getD}
+use lib.ListN.{length, getD}
 use lib.Ieee.Bits.{is-true, is-false}
-use Rattle.root_vectors.specs.Vectors.{digit, value}
+use Rattle.patterns.specs.Digits.{digit, value, word}
 
 below : (c n : ℕ) → c < n → ltb c n ≡ true
 below c n h = is-true (ltb c n) (lt→ltb c n h)
@@ -53,6 +53,9 @@ digit-lt c = number (decLe 48 c) (decLe 58 c)
     number (yes h) (no n) = let k = lt-of-not-le n in rw (digit-number c h k) (omega arith)
     number (yes h) (yes k) = letter (decLe 65 c) (decLe 71 c) k
 
+pub digit-small : {r : ℕ} (c : ℕ) → r ≡ digit c → r < 16
+digit-small c e = rw e (digit-lt c)
+
 -- ---- a row of digits
 value-lt : (s : List ℕ) (p k : ℕ) → value s p k < 2 ^ (4 * k)
 unfolding value
@@ -72,14 +75,26 @@ written-none s p = record { turns = omega arith; is = refl }
 
 module _ {s : List ℕ} {p v k : ℕ} (w : Written s p v k) (h : k < 16) where
   -- there is room for one more
-  pub written-room : v * 16 + digit (getD s (p + k) 0) < 2 ^ 64
-  written-room =
-      let m = pow-mono {i = 4 * k} {j = 60} (omega arith) in
-      omega (arith, w .is, value-lt s p k, digit-lt (getD s (p + k) 0), m)
+  pub written-room : v * 16 + 15 < 2 ^ 64
+  written-room = let m = pow-mono {i = 4 * k} {j = 60} (omega arith) in omega (arith, w .is, value-lt s p k, m)
 
   pub written-next : Written s p (v * 16 + digit (getD s (p + k) 0)) (k + 1)
   unfolding value
   written-next = record { turns = omega arith; is = rw (add-one k, w .is) refl }
 
-pub written-all : {s : List ℕ} {p v k : ℕ} → Written s p v k → 16 ≤ k → v ≡ value s p 16
-written-all {s} {p} {v} {k} w h = let e : k ≡ 16 = omega (arith, w .turns) in w .is ∙ ap (value s p) e
+pub written-all : {s : List ℕ} {p v k : ℕ} → Written s p v k → 16 ≤ k → p + 16 ≤ length s → v ≡ word s p
+unfolding word
+written-all {s} {p} {v} {k} w h l = let e : k ≡ 16 = omega (arith, w .turns) in w .is ∙ ap (value s p) e ∙ rw (is-true (leb (p + 16) (length s)) (le→leb (p + 16) (length s) l))
+
+pub word-lt : (s : List ℕ) (p : ℕ) → word s p < 2 ^ 64
+unfolding word
+word-lt s p = by-case (leb (p + 16) (length s))
+  where
+    by-case : (b : Bool) → cond b (value s p 16) 0 < 2 ^ 64
+    by-case true = value-lt s p 16
+    by-case false = omega arith
+
+-- where the text ends before
+pub word-short : (s : List ℕ) (p : ℕ) → length s < p + 16 → 0 ≡ word s p
+unfolding word
+word-short s p h = rw (is-false (leb (p + 16) (length s)) (not-T (leb (p + 16) (length s)) (λ (t : T (leb (p + 16) (length s))). not-le-of-lt h (leb→le (p + 16) (length s) t))))

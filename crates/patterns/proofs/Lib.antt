@@ -1,0 +1,3 @@
+-- Laws that the proofs and the programs above cite.
+pub mod Text
+mod Patterns

@@ -1,0 +1,2 @@
+-- What the contracts of `patterns` cite.
+pub mod Digits

@@ -1,0 +1,2 @@
+-- What the contracts of `replay_answers` cite.
+pub mod Lines
