@@ -243,22 +243,23 @@ fn agrees(
     true
 }
 
-// The coordinates of a map, from the lines after the first.
-fn fill(text: &[u8], points: &mut [f64]) {
+// The coordinates of a map, from the lines after the first. Returns how many there are.
+fn fill(text: &[u8], points: &mut [f64]) -> usize {
     let mut at = 36;
     let mut k = 0;
     while k + 1 < points.len() {
         if at >= text.len() {
-            return;
+            return k;
         }
         if text[at] != b'P' {
-            return;
+            return k;
         }
         points[k] = float(text, at + 2);
         points[k + 1] = float(text, at + 19);
         at += 36;
         k += 2;
     }
+    k
 }
 
 // As many coordinates as there are, up to c.
@@ -269,7 +270,7 @@ fn front(points: &[f64], c: usize) -> &[f64] {
     &points[0..c]
 }
 
-// The map whose line is the first, and its tree.
+// The map whose line is the first, and its tree; it has as many points as the line says.
 fn read_map(
     text: &[u8],
     points: &mut [f64],
@@ -277,14 +278,16 @@ fn read_map(
     boxes: &mut [f64],
     links: &mut [u32],
 ) -> Turn {
-    fill(text, points);
-    let size = 2 * up_to(text, 19, 512) as usize;
+    let size = fill(text, points);
     let builder = BallTreeBuilder::with_leaf_size(up_to(text, 2, 0xffff_ffff));
     let answer = builder.build(front(points, size), indices, boxes, links);
     let Building::Nodes(_made) = answer else {
         return Turn { size, good: false };
     };
-    Turn { size, good: true }
+    Turn {
+        size,
+        good: patterns::word(text, 19) == (size / 2) as u64,
+    }
 }
 
 // The line at the start of the text: a map is read, a question asked of the last one.
