@@ -1,5 +1,5 @@
 // The k nearest points to a place, by distance and then by index.
-use search::Found;
+use crate::found;
 ghost use Rattle.tree.specs.Accepted.{tree};
 ghost use Rattle.k_nearest.specs.Query.{place};
 ghost use Rattle.capi.specs.Flat.{KNears};
@@ -30,14 +30,5 @@ pub extern "C" fn yt_k_nearest(
         out_indices,
         out_distances,
     );
-    match answer {
-        Found::Hits(hits) => {
-            *count = hits;
-            return 0;
-        }
-        Found::Refused(number, detail) => {
-            *count = detail;
-            return number;
-        }
-    }
+    found::flatten(answer, count)
 }

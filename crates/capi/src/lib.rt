@@ -4,6 +4,7 @@
 // Ruled out: a refusal's number where its detail belongs, and an index written over an empty tree.
 mod build_tree;
 mod check_tree;
+mod found;
 mod k_nearest_hits;
 mod label;
 mod nearest_hit;

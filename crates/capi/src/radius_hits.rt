@@ -1,5 +1,5 @@
 // Every point within a radius of a place, by rising index, with its distance.
-use search::Found;
+use crate::found;
 ghost use Rattle.tree.specs.Accepted.{tree};
 ghost use Rattle.radius.specs.Within.{place};
 ghost use Rattle.capi.specs.Flat.{Within};
@@ -30,14 +30,5 @@ pub extern "C" fn yt_radius(
         out_indices,
         out_distances,
     );
-    match answer {
-        Found::Hits(hits) => {
-            *count = hits;
-            return 0;
-        }
-        Found::Refused(number, detail) => {
-            *count = detail;
-            return number;
-        }
-    }
+    found::flatten(answer, count)
 }

@@ -1,5 +1,5 @@
 // The indices alone of every point within a radius of a place, rising.
-use search::Found;
+use crate::found;
 ghost use Rattle.tree.specs.Accepted.{tree};
 ghost use Rattle.radius.specs.Within.{place};
 ghost use Rattle.capi.specs.Flat.{WithinIndices};
@@ -28,14 +28,5 @@ pub extern "C" fn yt_radius_indices(
         radius,
         out_indices,
     );
-    match answer {
-        Found::Hits(hits) => {
-            *count = hits;
-            return 0;
-        }
-        Found::Refused(number, detail) => {
-            *count = detail;
-            return number;
-        }
-    }
+    found::flatten(answer, count)
 }
