@@ -34,7 +34,9 @@ without v [] h = absurd (not-suc-le-zero h)
 without v (y ∷ ys) h = go (eqb v y) refl (without v ys)
   where
     go : (b : Bool) → eqb v y ≡ b → (v ∈ ys → Without v ys) → Without v (y ∷ ys)
-    go true e k = let q : v ≡ y = eqb-true v y e in record { zs = ys; counts = λ w. ap (λ (z : ℕ). one w z + times w ys) (sym q); sums = λ f. ap (λ (z : ℕ). f z + sum f ys) (sym q) }
+    go true e k =
+        let q : v ≡ y = eqb-true v y e in
+        record { zs = ys; counts = λ w. ap (λ (z : ℕ). one w z + times w ys) (sym q); sums = λ f. ap (λ (z : ℕ). f z + sum f ys) (sym q) }
     go false e k =
         let z : one v y ≡ 0 = ap (λ (b : Bool). cond {A = ℕ} b 1 0) e in
         let p = k (omega arith) in

@@ -88,7 +88,10 @@ module _ (epsilon : Float) (m : ℕ) (s₀ : Slices) where
           (A .labels-past ∙ sym (C .labels-past))
 
       go : (b : Bool) → quiet n m ≡ b → Same a c s u
-      go true q = let x = A .if-quiet q in let y = C .if-quiet q in record { told-is = t; labels-are = labels; work-is = x .work-is ∙ sym (y .work-is); tree-is = inl (x .tree-is ∙ sym (y .tree-is)) }
+      go true q =
+          let x = A .if-quiet q in
+          let y = C .if-quiet q in
+          record { told-is = t; labels-are = labels; work-is = x .work-is ∙ sym (y .work-is); tree-is = inl (x .tree-is ∙ sym (y .tree-is)) }
       go false q =
           let x = A .if-busy q in
           let y = C .if-busy q in

@@ -65,7 +65,9 @@ module _ (is : List ℕ) (ds : List Float) (hits : List Hit) where
       go false = refl
 
   pub answered-enough : (a : Reply) (room : ℕ) (is₀ : List ℕ) (r : Found) (js : List ℕ) → Answered a room is₀ r js → room ≤ length is → room ≤ length ds → room ≤ length hits → Enough (copies r) (how-many r (length hits)) hits is ds
-  answered-enough a room is₀ (Hits n) js A h k m = let l = few a (ap (λ (x : Told). x .number) (A .told-is)) (ap (λ (x : Told). x .detail) (A .told-is)) in record { records = omega arith; copied = λ _. (omega arith, omega arith) }
+  answered-enough a room is₀ (Hits n) js A h k m =
+      let l = few a (ap (λ (x : Told). x .number) (A .told-is)) (ap (λ (x : Told). x .detail) (A .told-is)) in
+      record { records = omega arith; copied = λ _. (omega arith, omega arith) }
     where
       few : (a : Reply) → 0 ≡ says a room .number → n ≡ says a room .detail → n ≤ room
       few (refuses j) z e = omega arith

@@ -84,7 +84,9 @@ module _ {s : List ℕ} {p v k : ℕ} (w : Written s p v k) (h : k < 16) where
 
 pub written-all : {s : List ℕ} {p v k : ℕ} → Written s p v k → 16 ≤ k → p + 16 ≤ length s → v ≡ word s p
 unfolding word
-written-all {s} {p} {v} {k} w h l = let e : k ≡ 16 = omega (arith, w .turns) in w .is ∙ ap (value s p) e ∙ rw (is-true (leb (p + 16) (length s)) (le→leb (p + 16) (length s) l))
+written-all {s} {p} {v} {k} w h l =
+    let e : k ≡ 16 = omega (arith, w .turns) in
+    w .is ∙ ap (value s p) e ∙ rw (is-true (leb (p + 16) (length s)) (le→leb (p + 16) (length s) l))
 
 pub word-lt : (s : List ℕ) (p : ℕ) → word s p < 2 ^ 64
 unfolding word

@@ -25,7 +25,9 @@ returns : tie.Need-returns
 returns c = let a = c .before .before .args in due-odd (a .leaf-size) (a .points .now) (a .indices) (a .boxes) (a .links) (c .if1 .taken)
 
 returns-2 : tie.Need-returns-2
-returns-2 c = let a = c .before .before .before .args in due-many (a .leaf-size) (a .points .now) (a .indices) (a .boxes) (a .links) (c .before .if1 .left) (c .if2 .taken)
+returns-2 c =
+    let a = c .before .before .before .args in
+    due-many (a .leaf-size) (a .points .now) (a .indices) (a .boxes) (a .links) (c .before .if1 .left) (c .if2 .taken)
 
 first-bad-requires : tie.Need-first-bad-requires
 first-bad-requires c κs = search needs

@@ -41,7 +41,11 @@ same-length : tie.Need-same-length Inv-loop μ-loop
 same-length c = search needs
 
 returns : tie.Need-returns Inv-loop μ-loop
-returns c = let d = c .before .loop in let n = length (c .before .before .args .part .now) in let e : d .i ≡ n = omega (arith, d .inv .0, d .inv .1 .0, c .loop-test .left) in subst (Each n) (take-all (d .i) (d .part) (c .loop-test .left)) (subst (λ (k : ℕ). Each k (take (d .i) (d .part))) e (d .inv .1 .1))
+returns c =
+    let d = c .before .loop in
+    let n = length (c .before .before .args .part .now) in
+    let e : d .i ≡ n = omega (arith, d .inv .0, d .inv .1 .0, c .loop-test .left) in
+    subst (Each n) (take-all (d .i) (d .part) (c .loop-test .left)) (subst (λ (k : ℕ). Each k (take (d .i) (d .part))) e (d .inv .1 .1))
 
 pub number-spec : {M : Type 1} → statement M
 number-spec =

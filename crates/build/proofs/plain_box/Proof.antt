@@ -28,16 +28,24 @@ mul-fx : tie.Need-mul-fx Inv-loop μ-loop
 mul-fx c = let s = c .before .before .before in omega (arith, ready-index (s .args .points .now) (s .args .part .now) (s .pre .0) 0 (s .pre .0 .some), s .pre .0 .limit)
 
 shared-slice-read-fx : tie.Need-shared-slice-read-fx Inv-loop μ-loop
-shared-slice-read-fx c = let s = c .before .before .before .before in omega (arith, ready-index (s .args .points .now) (s .args .part .now) (s .pre .0) 0 (s .pre .0 .some), s .pre .0 .limit)
+shared-slice-read-fx c =
+    let s = c .before .before .before .before in
+    omega (arith, ready-index (s .args .points .now) (s .args .part .now) (s .pre .0) 0 (s .pre .0 .some), s .pre .0 .limit)
 
 add-fy : tie.Need-add-fy Inv-loop μ-loop
-add-fy c = let s = c .before .before .before .before in omega (arith, ready-index (s .args .points .now) (s .args .part .now) (s .pre .0) 0 (s .pre .0 .some), s .pre .0 .limit)
+add-fy c =
+    let s = c .before .before .before .before in
+    omega (arith, ready-index (s .args .points .now) (s .args .part .now) (s .pre .0) 0 (s .pre .0 .some), s .pre .0 .limit)
 
 mul-fy : tie.Need-mul-fy Inv-loop μ-loop
-mul-fy c = let s = c .before .before .before .before in omega (arith, ready-index (s .args .points .now) (s .args .part .now) (s .pre .0) 0 (s .pre .0 .some), s .pre .0 .limit)
+mul-fy c =
+    let s = c .before .before .before .before in
+    omega (arith, ready-index (s .args .points .now) (s .args .part .now) (s .pre .0) 0 (s .pre .0 .some), s .pre .0 .limit)
 
 shared-slice-read-fy : tie.Need-shared-slice-read-fy Inv-loop μ-loop
-shared-slice-read-fy c = let s = c .before .before .before .before .before in omega (arith, ready-index (s .args .points .now) (s .args .part .now) (s .pre .0) 0 (s .pre .0 .some), s .pre .0 .limit)
+shared-slice-read-fy c =
+    let s = c .before .before .before .before .before in
+    omega (arith, ready-index (s .args .points .now) (s .args .part .now) (s .pre .0) 0 (s .pre .0 .some), s .pre .0 .limit)
 
 loop-holds : tie.Need-loop-holds Inv-loop μ-loop
 loop-holds c = let s = c .before .before .before .before .before in looked-one (s .args .points .now) (s .args .part .now) (s .pre .0)
@@ -49,25 +57,39 @@ shared-slice-read-i : tie.Need-shared-slice-read-i Inv-loop μ-loop
 shared-slice-read-i c = search needs
 
 cast-i : tie.Need-cast-i Inv-loop μ-loop
-cast-i c = let s = c .before .before .before .before .before .before .before .before in omega (arith, ready-index (s .args .points .now) (s .args .part .now) (s .pre .0) (c .before .before .loop .k) (c .before .loop-test .taken), s .pre .0 .limit)
+cast-i c =
+    let s = c .before .before .before .before .before .before .before .before in
+    omega (arith, ready-index (s .args .points .now) (s .args .part .now) (s .pre .0) (c .before .before .loop .k) (c .before .loop-test .taken), s .pre .0 .limit)
 
 mul-i-2 : tie.Need-mul-i-2 Inv-loop μ-loop
-mul-i-2 c = let s = c .before .before .before .before .before .before .before .before in omega (arith, ready-index (s .args .points .now) (s .args .part .now) (s .pre .0) (c .before .before .loop .k) (c .before .loop-test .taken), s .pre .0 .limit)
+mul-i-2 c =
+    let s = c .before .before .before .before .before .before .before .before in
+    omega (arith, ready-index (s .args .points .now) (s .args .part .now) (s .pre .0) (c .before .before .loop .k) (c .before .loop-test .taken), s .pre .0 .limit)
 
 mul-x : tie.Need-mul-x Inv-loop μ-loop
-mul-x c = let s = c .before .before .before .before .before .before .before .before in omega (arith, ready-index (s .args .points .now) (s .args .part .now) (s .pre .0) (c .before .before .loop .k) (c .before .loop-test .taken), s .pre .0 .limit)
+mul-x c =
+    let s = c .before .before .before .before .before .before .before .before in
+    omega (arith, ready-index (s .args .points .now) (s .args .part .now) (s .pre .0) (c .before .before .loop .k) (c .before .loop-test .taken), s .pre .0 .limit)
 
 shared-slice-read-x : tie.Need-shared-slice-read-x Inv-loop μ-loop
-shared-slice-read-x c = let s = c .before .before .before .before .before .before .before .before .before in omega (arith, ready-index (s .args .points .now) (s .args .part .now) (s .pre .0) (c .before .before .before .loop .k) (c .before .before .loop-test .taken), s .pre .0 .limit)
+shared-slice-read-x c =
+    let s = c .before .before .before .before .before .before .before .before .before in
+    omega (arith, ready-index (s .args .points .now) (s .args .part .now) (s .pre .0) (c .before .before .before .loop .k) (c .before .before .loop-test .taken), s .pre .0 .limit)
 
 add-y : tie.Need-add-y Inv-loop μ-loop
-add-y c = let s = c .before .before .before .before .before .before .before .before .before in omega (arith, ready-index (s .args .points .now) (s .args .part .now) (s .pre .0) (c .before .before .before .loop .k) (c .before .before .loop-test .taken), s .pre .0 .limit)
+add-y c =
+    let s = c .before .before .before .before .before .before .before .before .before in
+    omega (arith, ready-index (s .args .points .now) (s .args .part .now) (s .pre .0) (c .before .before .before .loop .k) (c .before .before .loop-test .taken), s .pre .0 .limit)
 
 mul-y : tie.Need-mul-y Inv-loop μ-loop
-mul-y c = let s = c .before .before .before .before .before .before .before .before .before in omega (arith, ready-index (s .args .points .now) (s .args .part .now) (s .pre .0) (c .before .before .before .loop .k) (c .before .before .loop-test .taken), s .pre .0 .limit)
+mul-y c =
+    let s = c .before .before .before .before .before .before .before .before .before in
+    omega (arith, ready-index (s .args .points .now) (s .args .part .now) (s .pre .0) (c .before .before .before .loop .k) (c .before .before .loop-test .taken), s .pre .0 .limit)
 
 shared-slice-read-y : tie.Need-shared-slice-read-y Inv-loop μ-loop
-shared-slice-read-y c = let s = c .before .before .before .before .before .before .before .before .before .before in omega (arith, ready-index (s .args .points .now) (s .args .part .now) (s .pre .0) (c .before .before .before .before .loop .k) (c .before .before .before .loop-test .taken), s .pre .0 .limit)
+shared-slice-read-y c =
+    let s = c .before .before .before .before .before .before .before .before .before .before in
+    omega (arith, ready-index (s .args .points .now) (s .args .part .now) (s .pre .0) (c .before .before .before .before .loop .k) (c .before .before .before .loop-test .taken), s .pre .0 .limit)
 
 smaller-requires : tie.Need-smaller-requires Inv-loop μ-loop
 smaller-requires c κs = search needs

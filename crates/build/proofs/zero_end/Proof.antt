@@ -35,19 +35,29 @@ shared-slice-read-x : tie.Need-shared-slice-read-x Inv-loop μ-loop
 shared-slice-read-x c = search needs
 
 cast-x : tie.Need-cast-x Inv-loop μ-loop
-cast-x c = let s = c .before .before .before .before in omega (arith, ready-index (s .args .points .now) (s .args .part .now) (s .pre .0) (c .before .before .loop .k) (c .before .loop-test .taken), s .pre .0 .limit)
+cast-x c =
+    let s = c .before .before .before .before in
+    omega (arith, ready-index (s .args .points .now) (s .args .part .now) (s .pre .0) (c .before .before .loop .k) (c .before .loop-test .taken), s .pre .0 .limit)
 
 mul-x-2 : tie.Need-mul-x-2 Inv-loop μ-loop
-mul-x-2 c = let s = c .before .before .before .before in omega (arith, ready-index (s .args .points .now) (s .args .part .now) (s .pre .0) (c .before .before .loop .k) (c .before .loop-test .taken), s .pre .0 .limit)
+mul-x-2 c =
+    let s = c .before .before .before .before in
+    omega (arith, ready-index (s .args .points .now) (s .args .part .now) (s .pre .0) (c .before .before .loop .k) (c .before .loop-test .taken), s .pre .0 .limit)
 
 add-x : tie.Need-add-x Inv-loop μ-loop
-add-x c = let s = c .before .before .before .before in omega (arith, ready-index (s .args .points .now) (s .args .part .now) (s .pre .0) (c .before .before .loop .k) (c .before .loop-test .taken), s .pre .0 .limit, s .pre .1 .0)
+add-x c =
+    let s = c .before .before .before .before in
+    omega (arith, ready-index (s .args .points .now) (s .args .part .now) (s .pre .0) (c .before .before .loop .k) (c .before .loop-test .taken), s .pre .0 .limit, s .pre .1 .0)
 
 mul-x-3 : tie.Need-mul-x-3 Inv-loop μ-loop
-mul-x-3 c = let s = c .before .before .before .before in omega (arith, ready-index (s .args .points .now) (s .args .part .now) (s .pre .0) (c .before .before .loop .k) (c .before .loop-test .taken), s .pre .0 .limit, s .pre .1 .0)
+mul-x-3 c =
+    let s = c .before .before .before .before in
+    omega (arith, ready-index (s .args .points .now) (s .args .part .now) (s .pre .0) (c .before .before .loop .k) (c .before .loop-test .taken), s .pre .0 .limit, s .pre .1 .0)
 
 shared-slice-read-x-2 : tie.Need-shared-slice-read-x-2 Inv-loop μ-loop
-shared-slice-read-x-2 c = let s = c .before .before .before .before .before in omega (arith, ready-index (s .args .points .now) (s .args .part .now) (s .pre .0) (c .before .before .before .loop .k) (c .before .before .loop-test .taken), s .pre .1 .0)
+shared-slice-read-x-2 c =
+    let s = c .before .before .before .before .before in
+    omega (arith, ready-index (s .args .points .now) (s .args .part .now) (s .pre .0) (c .before .before .before .loop .k) (c .before .before .loop-test .taken), s .pre .1 .0)
 
 float-to-bits-if2 : tie.Need-float-to-bits-if2 Inv-loop μ-loop
 float-to-bits-if2 c =

@@ -3,27 +3,21 @@ use borrow.Author.Tests.{ne-eqb}
 use Rattle.records.proofs.body_length.Statement.{statement}
 use Rattle.records.proofs.body_length.Tie as tie
 
--- src/lib.rt:62:9
 returns : tie.Need-returns
 returns c = rw (c .if1 .taken)
 
--- src/lib.rt:65:9
 returns-2 : tie.Need-returns-2
 returns-2 c = rw (c .if2 .taken)
 
--- src/lib.rt:68:9
 returns-3 : tie.Need-returns-3
 returns-3 c = rw (c .if3 .taken)
 
--- src/lib.rt:71:9
 returns-4 : tie.Need-returns-4
 returns-4 c = rw (c .if4 .taken)
 
--- src/lib.rt:74:9
 returns-5 : tie.Need-returns-5
 returns-5 c = rw (c .if5 .taken)
 
--- src/lib.rt:58:1
 returns-6 : tie.Need-returns-6
 returns-6 c = simp (ne-eqb _ 1 (c .before .before .before .before .if1 .left), ne-eqb _ 2 (c .before .before .before .if2 .left), ne-eqb _ 3 (c .before .before .if3 .left), ne-eqb _ 4 (c .before .if4 .left), ne-eqb _ 5 (c .if5 .left))
 

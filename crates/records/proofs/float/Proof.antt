@@ -8,31 +8,25 @@ use borrow.Author.Needs.{needs}
 use Rattle.records.proofs.float.Statement.{statement}
 use Rattle.records.proofs.float.Tie as tie
 
--- src/lib.rt:47:9
 long-requires : tie.Need-long-requires
 long-requires c κs = search needs
 
--- src/lib.rt:50:20
 float-from-bits-result : tie.Need-float-from-bits-result
 unfolding nanBits
 float-from-bits-result c = no-digits (c .before .before .long .result % 9223372036854775808 / 4503599627370496) (c .before .before .long .result % 4503599627370496) (c .if2 .taken)
 
--- src/lib.rt:50:13
 returns : tie.Need-returns
 unfolding float-at
 returns c = ap (ofBits binary64) (c .before .before .long .ensures)
 
--- src/lib.rt:52:9
 returns-2 : tie.Need-returns-2
 unfolding float-at ofBits
 returns-2 c = over-zero ∙ sym (ap (ofBits binary64) (sym (c .before .before .long .ensures)) ∙ fields-nan _ _ _ (c .before .if1 .taken) (c .if2 .left))
 
--- src/lib.rt:54:5
 float-from-bits-result-2 : tie.Need-float-from-bits-result-2
 unfolding nanBits
 float-from-bits-result-2 c = low-field (c .before .long .result % 9223372036854775808 / 4503599627370496) (c .before .long .result % 4503599627370496) (c .if1 .left)
 
--- src/lib.rt:43:1
 returns-3 : tie.Need-returns-3
 unfolding float-at
 returns-3 c = ap (ofBits binary64) (c .before .long .ensures)

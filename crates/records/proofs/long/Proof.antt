@@ -5,35 +5,27 @@ use borrow.Author.Needs.{needs}
 use Rattle.records.proofs.long.Statement.{statement}
 use Rattle.records.proofs.long.Tie as tie
 
--- src/lib.rt:38:15
 word-requires : tie.Need-word-requires
 word-requires c κs = search needs
 
--- src/lib.rt:38:15
 cast-low : tie.Need-cast-low
 cast-low c = search needs
 
--- src/lib.rt:39:24
 add-word : tie.Need-add-word
 add-word c = search needs
 
--- src/lib.rt:39:16
 word-requires-2 : tie.Need-word-requires-2
 word-requires-2 c κs = search needs
 
--- src/lib.rt:39:16
 cast-high : tie.Need-cast-high
 cast-high c = search needs
 
--- src/lib.rt:40:11
 mul-result : tie.Need-mul-result
 mul-result c = search needs
 
--- src/lib.rt:40:5
 add-result : tie.Need-add-result
 add-result c = search needs
 
--- src/lib.rt:34:1
 returns : tie.Need-returns
 unfolding long-at
 returns c = omega (arith, c .before .word .ensures, c .word2 .ensures)

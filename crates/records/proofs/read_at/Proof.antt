@@ -5,41 +5,36 @@ use borrow.Author.Needs.{needs}
 use Rattle.records.proofs.read_at.Statement.{statement}
 use Rattle.records.proofs.read_at.Tie as tie
 
--- src/lib.rt:105:9
 returns : tie.Need-returns
 returns c = simp (le-ltb _ _ (c .if1 .taken))
 
--- src/lib.rt:107:16
 shared-slice-read-kind : tie.Need-shared-slice-read-kind
 shared-slice-read-kind c = search needs
 
--- src/lib.rt:108:17
 add-start : tie.Need-add-start
 add-start c = search needs
 
--- src/lib.rt:109:9
 body-length-requires : tie.Need-body-length-requires
 body-length-requires c κs = search needs
 
--- src/lib.rt:110:13
 sub-if2 : tie.Need-sub-if2
 sub-if2 c = search needs
 
--- src/lib.rt:111:21
 body-of-requires : tie.Need-body-of-requires
 body-of-requires c κs = search needs
 
--- src/lib.rt:111:46
 add-t13 : tie.Need-add-t13
 add-t13 c = search needs
 
--- src/lib.rt:101:1
 returns-2 : tie.Need-returns-2
-returns-2 c = let a = c .before .before .before .before .before .before .args in whole (a .s .now) (a .at) _ (c .before .before .before .before .if1 .left) (c .before .before .body-length .ensures) _ (c .before .if2 .taken) (c .body-of .ensures)
+returns-2 c =
+    let a = c .before .before .before .before .before .before .args in
+    whole (a .s .now) (a .at) _ (c .before .before .before .before .if1 .left) (c .before .before .body-length .ensures) _ (c .before .if2 .taken) (c .body-of .ensures)
 
--- src/lib.rt:101:1
 returns-3 : tie.Need-returns-3
-returns-3 c = let a = c .before .before .before .before .before .args in cut (a .s .now) (a .at) _ (c .before .before .before .if1 .left) (c .before .body-length .ensures) (c .if2 .left)
+returns-3 c =
+    let a = c .before .before .before .before .before .args in
+    cut (a .s .now) (a .at) _ (c .before .before .before .if1 .left) (c .before .body-length .ensures) (c .if2 .left)
 
 pub read-at-spec : {M : Type 1} → statement M
 read-at-spec =

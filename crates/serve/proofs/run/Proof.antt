@@ -4,35 +4,27 @@ use borrow.Author.Needs.{needs}
 use Rattle.serve.proofs.run.Statement.{statement}
 use Rattle.serve.proofs.run.Tie as tie
 
--- src/lib.rt:166:9
 slice-aggregate-drive : tie.Need-slice-aggregate-drive
 slice-aggregate-drive c = search needs
 
--- src/lib.rt:167:9
 slice-aggregate-drive-2 : tie.Need-slice-aggregate-drive-2
 slice-aggregate-drive-2 c = search needs
 
--- src/lib.rt:168:9
 slice-aggregate-drive-3 : tie.Need-slice-aggregate-drive-3
 slice-aggregate-drive-3 c = search needs
 
--- src/lib.rt:169:9
 slice-aggregate-drive-4 : tie.Need-slice-aggregate-drive-4
 slice-aggregate-drive-4 c = search needs
 
--- src/lib.rt:170:9
 slice-aggregate-drive-5 : tie.Need-slice-aggregate-drive-5
 slice-aggregate-drive-5 c = search needs
 
--- src/lib.rt:171:9
 slice-aggregate-drive-6 : tie.Need-slice-aggregate-drive-6
 slice-aggregate-drive-6 c = search needs
 
--- src/lib.rt:165:5
 drive-requires : tie.Need-drive-requires
 drive-requires c κs = started _ _ _ _ (search needs) (search needs) (search needs) (search needs)
 
--- src/lib.rt:158:1
 returns : tie.Need-returns
 returns c = search needs
 

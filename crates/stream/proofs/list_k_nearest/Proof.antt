@@ -11,29 +11,29 @@ use borrow.Author.Needs.{needs}
 use Rattle.stream.proofs.list_k_nearest.Statement.{statement}
 use Rattle.stream.proofs.list_k_nearest.Tie as tie
 
--- src/lib.rt:147:9
 nearest-neighbours-requires : tie.Need-nearest-neighbours-requires
 nearest-neighbours-requires c κs = search needs
 
--- src/lib.rt:148:5
 put-found-requires : tie.Need-put-found-requires
-put-found-requires c κs = let a = c .before .before .before .before .before .before .before .before .before .before .before .before .before .before .before .before .before .args in let z = c .before .before .before .before .before .before .before .before .before .before .before .before .before .before .before .before .before .pre in writes (c .before .before .before .before .before .before .before .nearest-neighbours .ensures) (omega (arith, z .most, c .before .before .before .before .before .before .near .given)) (λ l e. several-unsigned (tree (a .points .now) (a .indices .now) (a .boxes .now) (a .links .now)) (at (a .x) (a .y)) (a .k) (min (length (a .near .now)) (length (a .far .now))) l (z .asking .stands) e) (z .asking .room)
+put-found-requires c κs =
+    let a = c .before .before .before .before .before .before .before .before .before .before .before .before .before .before .before .before .before .args in
+    let z = c .before .before .before .before .before .before .before .before .before .before .before .before .before .before .before .before .before .pre in
+    writes (c .before .before .before .before .before .before .before .nearest-neighbours .ensures) (omega (arith, z .most, c .before .before .before .before .before .before .near .given)) (λ l e. several-unsigned (tree (a .points .now) (a .indices .now) (a .boxes .now) (a .links .now)) (at (a .x) (a .y)) (a .k) (min (length (a .near .now)) (length (a .far .now))) l (z .asking .stands) e) (z .asking .room)
 
--- src/lib.rt:131:1
 same-length : tie.Need-same-length
 same-length c = search needs
 
--- src/lib.rt:131:1
 same-length-2 : tie.Need-same-length-2
 same-length-2 c = search needs
 
--- src/lib.rt:131:1
 same-length-3 : tie.Need-same-length-3
 same-length-3 c = search needs
 
--- src/lib.rt:131:1
 returns : tie.Need-returns
-returns c = let a = c .before .before .before .before .before .before .before .before .before .before .before .before .before .before .before .before .before .before .before .before .args in let z = c .before .before .before .before .before .before .before .before .before .before .before .before .before .before .before .before .before .before .before .before .pre in lists (c .before .before .before .before .before .before .before .before .before .before .nearest-neighbours .ensures) (omega (arith, z .most, c .before .before .before .before .before .before .before .before .before .near .given)) (λ l e. several-unsigned (tree (a .points .now) (a .indices .now) (a .boxes .now) (a .links .now)) (at (a .x) (a .y)) (a .k) (min (length (a .near .now)) (length (a .far .now))) l (z .asking .stands) e) (KNearest (a .x) (a .y) (a .k)) (a .points .now) 75 (λ i h. c .before .before .before .before .before .before .slice-known5 .given i) (several-prints (a .points .now) (a .indices .now) (a .boxes .now) (a .links .now) (at (a .x) (a .y)) (a .k) (min (length (a .near .now)) (length (a .far .now))) (z .asking .stands) (omega (arith, z .asking .few, z .near-room, z .far-room))) (c .before .before .put-found .ensures)
+returns c =
+    let a = c .before .before .before .before .before .before .before .before .before .before .before .before .before .before .before .before .before .before .before .before .args in
+    let z = c .before .before .before .before .before .before .before .before .before .before .before .before .before .before .before .before .before .before .before .before .pre in
+    lists (c .before .before .before .before .before .before .before .before .before .before .nearest-neighbours .ensures) (omega (arith, z .most, c .before .before .before .before .before .before .before .before .before .near .given)) (λ l e. several-unsigned (tree (a .points .now) (a .indices .now) (a .boxes .now) (a .links .now)) (at (a .x) (a .y)) (a .k) (min (length (a .near .now)) (length (a .far .now))) l (z .asking .stands) e) (KNearest (a .x) (a .y) (a .k)) (a .points .now) 75 (λ i h. c .before .before .before .before .before .before .slice-known5 .given i) (several-prints (a .points .now) (a .indices .now) (a .boxes .now) (a .links .now) (at (a .x) (a .y)) (a .k) (min (length (a .near .now)) (length (a .far .now))) (z .asking .stands) (omega (arith, z .asking .few, z .near-room, z .far-room))) (c .before .before .put-found .ensures)
 
 pub list-k-nearest-spec : {M : Type 1} → statement M
 list-k-nearest-spec =

@@ -8,89 +8,76 @@ use borrow.Author.Needs.{needs}
 use Rattle.stream.proofs.list_labels.Statement.{statement}
 use Rattle.stream.proofs.list_labels.Tie as tie
 
--- src/lib.rt:188:9
 dbscan-requires : tie.Need-dbscan-requires
 dbscan-requires c κs = search needs
 
--- src/lib.rt:193:21
 enum-told : tie.Need-enum-told
 enum-told c = search needs
 
--- src/lib.rt:194:55
 cast-put-count : tie.Need-cast-put-count
 cast-put-count c = search needs
 
--- src/lib.rt:194:17
 put-count-requires : tie.Need-put-count-requires
 put-count-requires c κs = search needs
 
--- src/lib.rt:195:13
 put-labels-requires : tie.Need-put-labels-requires
-put-labels-requires c κs = let z = c .before .before .before .before .before .before .before .before .before .before .before .before .before .before .before .before .before .before .before .before .before .before .before .before .before .before .before .before .before .before .before .pre in let p = c .before .before .before .before .put-count .ensures in let n = c .before .before .before .before .before .before .before .before .before .before .before .before .before .before .before .before .before .before .before .before .before .before .before .before .before .before .before .before .before .before .before .args .points .now in record { labels = omega (arith, z .raising .few, z .labels-room, c .before .before .before .before .before .before .before .before .before .before .before .labels .given); room = omega (arith, z .raising .few, z .room, kept p, p .past, short-count 67 (length n / 2)) }
+put-labels-requires c κs =
+    let z = c .before .before .before .before .before .before .before .before .before .before .before .before .before .before .before .before .before .before .before .before .before .before .before .before .before .before .before .before .before .before .before .pre in
+    let p = c .before .before .before .before .put-count .ensures in
+    let n = c .before .before .before .before .before .before .before .before .before .before .before .before .before .before .before .before .before .before .before .before .before .before .before .before .before .before .before .before .before .before .before .args .points .now in
+    record { labels = omega (arith, z .raising .few, z .labels-room, c .before .before .before .before .before .before .before .before .before .before .before .labels .given); room = omega (arith, z .raising .few, z .room, kept p, p .past, short-count 67 (length n / 2)) }
 
--- src/lib.rt:197:28
 enum-known-answer : tie.Need-enum-known-answer
 enum-known-answer c = search needs
 
--- src/lib.rt:197:42
 put-count-requires-2 : tie.Need-put-count-requires-2
 put-count-requires-2 c κs = search needs
 
--- src/lib.rt:173:1
 same-length : tie.Need-same-length
 same-length c = search needs
 
--- src/lib.rt:173:1
 same-length-2 : tie.Need-same-length-2
 same-length-2 c = search needs
 
--- src/lib.rt:173:1
 same-length-3 : tie.Need-same-length-3
 same-length-3 c = search needs
 
--- src/lib.rt:173:1
 same-length-4 : tie.Need-same-length-4
 same-length-4 c = search needs
 
--- src/lib.rt:173:1
 same-length-5 : tie.Need-same-length-5
 same-length-5 c = search needs
 
--- src/lib.rt:173:1
 same-length-6 : tie.Need-same-length-6
 same-length-6 c = search needs
 
--- src/lib.rt:173:1
 returns : tie.Need-returns
-returns c = let a = c .before .before .before .before .before .before .before .before .before .before .before .before .before .before .before .before .before .before .before .before .before .before .before .before .before .before .before .before .before .before .before .before .before .before .args in label-given (a .points .now) (a .epsilon) (a .samples) (a .indices .now) (a .boxes .now) (a .links .now) (a .labels .now) (a .work .now) (a .out .now) (a .at) (c .before .before .before .before .before .before .before .before .before .before .before .before .before .before .before .before .before .before .before .before .before .before .before .before .before .before .before .before .before .before .before .before .before .before .pre) (c .before .before .before .before .before .before .before .before .before .before .before .before .before .before .before .before .before .before .before .before .before .dbscan .ensures) (c .before .before .before .before .before .before .before .before .before .enum-told .given .1) (then (c .before .before .before .before .before .before .before .put-count .ensures) (c .before .before .put-labels .ensures))
+returns c =
+    let a = c .before .before .before .before .before .before .before .before .before .before .before .before .before .before .before .before .before .before .before .before .before .before .before .before .before .before .before .before .before .before .before .before .before .before .args in
+    label-given (a .points .now) (a .epsilon) (a .samples) (a .indices .now) (a .boxes .now) (a .links .now) (a .labels .now) (a .work .now) (a .out .now) (a .at) (c .before .before .before .before .before .before .before .before .before .before .before .before .before .before .before .before .before .before .before .before .before .before .before .before .before .before .before .before .before .before .before .before .before .before .pre) (c .before .before .before .before .before .before .before .before .before .before .before .before .before .before .before .before .before .before .before .before .before .dbscan .ensures) (c .before .before .before .before .before .before .before .before .before .enum-told .given .1) (then (c .before .before .before .before .before .before .before .put-count .ensures) (c .before .before .put-labels .ensures))
 
--- src/lib.rt:173:1
 same-length-7 : tie.Need-same-length-7
 same-length-7 c = search needs
 
--- src/lib.rt:173:1
 same-length-8 : tie.Need-same-length-8
 same-length-8 c = search needs
 
--- src/lib.rt:173:1
 same-length-9 : tie.Need-same-length-9
 same-length-9 c = search needs
 
--- src/lib.rt:173:1
 same-length-10 : tie.Need-same-length-10
 same-length-10 c = search needs
 
--- src/lib.rt:173:1
 same-length-11 : tie.Need-same-length-11
 same-length-11 c = search needs
 
--- src/lib.rt:173:1
 same-length-12 : tie.Need-same-length-12
 same-length-12 c = search needs
 
--- src/lib.rt:173:1
 returns-2 : tie.Need-returns-2
-returns-2 c = let a = c .before .before .before .before .before .before .before .before .before .before .before .before .before .before .before .before .before .before .before .before .before .before .before .before .before .before .before .before .before .before .args in label-refused (a .points .now) (a .epsilon) (a .samples) (a .indices .now) (a .boxes .now) (a .links .now) (a .labels .now) (a .work .now) (a .out .now) (a .at) (c .before .before .before .before .before .before .before .before .before .before .before .before .before .before .before .before .before .before .before .before .before .before .before .before .before .before .before .before .before .before .pre) (c .before .before .before .before .before .before .before .before .before .before .before .before .before .before .before .before .before .dbscan .ensures) (c .before .before .before .before .before .answer .given .1) (c .before .before .put-count2 .ensures)
+returns-2 c =
+    let a = c .before .before .before .before .before .before .before .before .before .before .before .before .before .before .before .before .before .before .before .before .before .before .before .before .before .before .before .before .before .before .args in
+    label-refused (a .points .now) (a .epsilon) (a .samples) (a .indices .now) (a .boxes .now) (a .links .now) (a .labels .now) (a .work .now) (a .out .now) (a .at) (c .before .before .before .before .before .before .before .before .before .before .before .before .before .before .before .before .before .before .before .before .before .before .before .before .before .before .before .before .before .before .pre) (c .before .before .before .before .before .before .before .before .before .before .before .before .before .before .before .before .before .dbscan .ensures) (c .before .before .before .before .before .answer .given .1) (c .before .before .put-count2 .ensures)
 
 pub list-labels-spec : {M : Type 1} → statement M
 list-labels-spec =

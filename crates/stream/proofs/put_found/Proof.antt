@@ -5,43 +5,37 @@ use borrow.Author.Needs.{needs}
 use Rattle.stream.proofs.put_found.Statement.{statement}
 use Rattle.stream.proofs.put_found.Tie as tie
 
--- src/lib.rt:121:21
 enum-known-found : tie.Need-enum-known-found
 enum-known-found c = search needs
 
--- src/lib.rt:122:17
 put-count-requires : tie.Need-put-count-requires
 put-count-requires c κs = search needs
 
--- src/lib.rt:123:59
 cast-put-hits : tie.Need-cast-put-hits
 cast-put-hits c = search needs
 
--- src/lib.rt:123:13
 put-hits-requires : tie.Need-put-hits-requires
-put-hits-requires c κs = let g = c .before .before .before .before .before .before .found .given in let k = c .before .before .before .before .before .before .before .before .before .before .before .pre .counts _ (g .1) in let p = c .before .before .before .put-count .ensures in record { indices = k .indices; distances = k .distances; numbers = k .numbers; room = omega (arith, k .few, c .before .before .before .before .before .before .before .before .before .before .before .pre .room, kept p, p .past, short-count (c .before .before .before .before .before .before .before .before .before .before .before .args .letter) (g .0 .0)) }
+put-hits-requires c κs =
+    let g = c .before .before .before .before .before .before .found .given in
+    let k = c .before .before .before .before .before .before .before .before .before .before .before .pre .counts _ (g .1) in
+    let p = c .before .before .before .put-count .ensures in
+    record { indices = k .indices; distances = k .distances; numbers = k .numbers; room = omega (arith, k .few, c .before .before .before .before .before .before .before .before .before .before .before .pre .room, kept p, p .past, short-count (c .before .before .before .before .before .before .before .before .before .before .before .args .letter) (g .0 .0)) }
 
--- src/lib.rt:125:24
 enum-known-found-2 : tie.Need-enum-known-found-2
 enum-known-found-2 c = search needs
 
--- src/lib.rt:125:38
 put-count-requires-2 : tie.Need-put-count-requires-2
 put-count-requires-2 c κs = search needs
 
--- src/lib.rt:109:1
 same-length : tie.Need-same-length
 same-length c = search needs
 
--- src/lib.rt:109:1
 returns : tie.Need-returns
 returns c = rw (c .before .before .before .before .before .before .before .before .before .found .given .1) (then (c .before .before .before .before .before .before .put-count .ensures) (c .before .before .put-hits .ensures))
 
--- src/lib.rt:109:1
 same-length-2 : tie.Need-same-length-2
 same-length-2 c = search needs
 
--- src/lib.rt:109:1
 returns-2 : tie.Need-returns-2
 returns-2 c = rw (c .before .before .before .before .before .found2 .given .1) (c .before .before .put-count2 .ensures)
 

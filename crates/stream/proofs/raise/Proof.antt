@@ -4,33 +4,29 @@ use borrow.Author.Needs.{needs}
 use Rattle.stream.proofs.raise.Statement.{statement}
 use Rattle.stream.proofs.raise.Tie as tie
 
--- src/lib.rt:78:9
 returns : tie.Need-returns
 returns c = c .before .before .before .before .before .pre .stands (c .if1 .taken)
 
--- src/lib.rt:80:5
 new-requires : tie.Need-new-requires
 new-requires c κs = search needs
 
--- src/lib.rt:80:5
 build-requires : tie.Need-build-requires
 build-requires c κs = search needs
 
--- src/lib.rt:73:1
 same-length : tie.Need-same-length
 same-length c = search needs
 
--- src/lib.rt:73:1
 same-length-2 : tie.Need-same-length-2
 same-length-2 c = search needs
 
--- src/lib.rt:73:1
 same-length-3 : tie.Need-same-length-3
 same-length-3 c = search needs
 
--- src/lib.rt:73:1
 returns-2 : tie.Need-returns-2
-returns-2 c = let a = c .before .before .before .before .before .before .before .before .before .before .before .before .before .before .before .before .args in let b = c .before .before .before .before .before .before .build in raised _ (a .points .now) (a .indices .now) (a .boxes .now) (a .links .now) (a .fresh) (c .before .before .before .before .before .before .before .before .before .before .before .before .before .before .before .before .pre) _ _ (λ k h. c .before .before .before .before .before .before .before .before .before .before .before .before .before .before .before .shared-slice-known .given k) (b .ensures)
+returns-2 c =
+    let a = c .before .before .before .before .before .before .before .before .before .before .before .before .before .before .before .before .args in
+    let b = c .before .before .before .before .before .before .build in
+    raised _ (a .points .now) (a .indices .now) (a .boxes .now) (a .links .now) (a .fresh) (c .before .before .before .before .before .before .before .before .before .before .before .before .before .before .before .before .pre) _ _ (λ k h. c .before .before .before .before .before .before .before .before .before .before .before .before .before .before .before .shared-slice-known .given k) (b .ensures)
 
 pub raise-spec : {M : Type 1} → statement M
 raise-spec =

@@ -6,91 +6,69 @@ use borrow.Author.Needs.{needs}
 use Rattle.stream.proofs.reply.Statement.{statement}
 use Rattle.stream.proofs.reply.Tie as tie
 
--- src/lib.rt:274:25
 enum-known-what : tie.Need-enum-known-what
 enum-known-what c = search needs
 
--- src/lib.rt:274:34
 say-nearest-requires : tie.Need-say-nearest-requires
 say-nearest-requires c κs = search needs
 
--- src/lib.rt:275:26
 enum-known-what-2 : tie.Need-enum-known-what-2
 enum-known-what-2 c = search needs
 
--- src/lib.rt:275:38
 say-k-nearest-requires : tie.Need-say-k-nearest-requires
 say-k-nearest-requires c κs = search needs
 
--- src/lib.rt:276:24
 enum-known-what-3 : tie.Need-enum-known-what-3
 enum-known-what-3 c = search needs
 
--- src/lib.rt:277:13
 say-radius-requires : tie.Need-say-radius-requires
 say-radius-requires c κs = search needs
 
--- src/lib.rt:279:23
 enum-known-what-4 : tie.Need-enum-known-what-4
 enum-known-what-4 c = search needs
 
--- src/lib.rt:279:44
 say-labels-requires : tie.Need-say-labels-requires
 say-labels-requires c κs = search needs
 
--- src/lib.rt:280:32
 enum-told : tie.Need-enum-told
 enum-told c = search needs
 
--- src/lib.rt:281:44
 enum-told-2 : tie.Need-enum-told-2
 enum-told-2 c = search needs
 
--- src/lib.rt:281:28
 put-count-requires : tie.Need-put-count-requires
 put-count-requires c κs = search needs
 
--- src/lib.rt:261:1
 same-length : tie.Need-same-length
 same-length c = search needs
 
--- src/lib.rt:261:1
 returns : tie.Need-returns
 returns c = rw (c .before .before .before .before .before .what .given .1) (c .before .before .say-nearest .ensures)
 
--- src/lib.rt:261:1
 same-length-2 : tie.Need-same-length-2
 same-length-2 c = search needs
 
--- src/lib.rt:261:1
 returns-2 : tie.Need-returns-2
 returns-2 c = rw (c .before .before .before .before .before .what2 .given .1) (c .before .before .say-k-nearest .ensures)
 
--- src/lib.rt:261:1
 same-length-3 : tie.Need-same-length-3
 same-length-3 c = search needs
 
--- src/lib.rt:261:1
 returns-3 : tie.Need-returns-3
 returns-3 c = rw (c .before .before .before .before .before .what3 .given .1) (c .before .before .say-radius .ensures)
 
--- src/lib.rt:261:1
 same-length-4 : tie.Need-same-length-4
 same-length-4 c = search needs
 
--- src/lib.rt:261:1
 returns-4 : tie.Need-returns-4
 returns-4 c = rw (c .before .before .before .before .before .what4 .given .1) (c .before .before .say-labels .ensures)
 
--- src/lib.rt:261:1
 returns-5 : tie.Need-returns-5
 returns-5 c = absurd (subst Query (c .enum-told .given .1) (c .before .before .before .before .before .before .before .pre .0))
 
--- src/lib.rt:261:1
 same-length-5 : tie.Need-same-length-5
 same-length-5 c = search needs
 
--- src/lib.rt:261:1
 returns-6 : tie.Need-returns-6
 returns-6 c = rw (c .before .before .before .before .enum-told2 .given .1) (unknown-replies (c .before .before .put-count .ensures))
 

@@ -5,35 +5,29 @@ use borrow.Author.Needs.{needs}
 use Rattle.stream.proofs.say_labels.Statement.{statement}
 use Rattle.stream.proofs.say_labels.Tie as tie
 
--- src/lib.rt:256:35
 slice-aggregate-list-labels : tie.Need-slice-aggregate-list-labels
 slice-aggregate-list-labels c = search needs
 
--- src/lib.rt:256:49
 slice-aggregate-list-labels-2 : tie.Need-slice-aggregate-list-labels-2
 slice-aggregate-list-labels-2 c = search needs
 
--- src/lib.rt:256:61
 slice-aggregate-list-labels-3 : tie.Need-slice-aggregate-list-labels-3
 slice-aggregate-list-labels-3 c = search needs
 
--- src/lib.rt:256:73
 slice-aggregate-list-labels-4 : tie.Need-slice-aggregate-list-labels-4
 slice-aggregate-list-labels-4 c = search needs
 
--- src/lib.rt:256:86
 slice-aggregate-list-labels-5 : tie.Need-slice-aggregate-list-labels-5
 slice-aggregate-list-labels-5 c = search needs
 
--- src/lib.rt:255:5
 list-labels-requires : tie.Need-list-labels-requires
-list-labels-requires c κs = let p = c .before .before .before .before .before .before .before .before .pre in record { raising = record { even = p .even; few = p .few; all-finite = p .all-finite; indices-room = search needs; boxes-room = search needs; links-room = search needs; stands = λ g. absurd (subst T (sym g) tt) }; labels-room = search needs; work-room = search needs; room = p .room }
+list-labels-requires c κs =
+    let p = c .before .before .before .before .before .before .before .before .pre in
+    record { raising = record { even = p .even; few = p .few; all-finite = p .all-finite; indices-room = search needs; boxes-room = search needs; links-room = search needs; stands = λ g. absurd (subst T (sym g) tt) }; labels-room = search needs; work-room = search needs; room = p .room }
 
--- src/lib.rt:246:1
 same-length : tie.Need-same-length
 same-length c = search needs
 
--- src/lib.rt:246:1
 returns : tie.Need-returns
 returns c = search needs
 

@@ -28,51 +28,41 @@ put-decimal-below t =
 abbrev rs : ℕ → put-decimal-lts.Claims
 rs t = (glyph-reads.Asked, glyph-reads.Learnt, put-decimal-below t, put-decimal.Post)
 
--- src/lib.rt:22:19
 put-decimal-glyph-requires : (t : ℕ) → put-decimal-lts.Need-glyph-requires (rs t) (put-decimal-at t) put-decimal.Post
 put-decimal-glyph-requires t c κs = search needs
 
--- src/lib.rt:22:9
 put-decimal-slice-write-out : (t : ℕ) → put-decimal-lts.Need-slice-write-out (rs t) (put-decimal-at t) put-decimal.Post
 put-decimal-slice-write-out t c = omega (arith, ap length (decimal-small (c .before .before .before .args .n) (c .before .if1 .taken)))
 
--- src/lib.rt:23:16
 put-decimal-add-result : (t : ℕ) → put-decimal-lts.Need-add-result (rs t) (put-decimal-at t) put-decimal.Post
 put-decimal-add-result t c = search needs
 
--- src/lib.rt:23:9
 put-decimal-same-length : (t : ℕ) → put-decimal-lts.Need-same-length (rs t) (put-decimal-at t) put-decimal.Post
 put-decimal-same-length t c = search needs
 
--- src/lib.rt:23:9
 put-decimal-returns : (t : ℕ) → put-decimal-lts.Need-returns (rs t) (put-decimal-at t) put-decimal.Post
-put-decimal-returns t c = let a = c .before .before .before .args in decimal-one (a .out .now) (a .at) (a .n) (c .glyph .result) (c .before .if1 .taken) (c .glyph .ensures)
+put-decimal-returns t c =
+    let a = c .before .before .before .args in
+    decimal-one (a .out .now) (a .at) (a .n) (c .glyph .result) (c .before .if1 .taken) (c .glyph .ensures)
 
--- src/lib.rt:25:9
 put-decimal-put-decimal-requires : (t : ℕ) → put-decimal-lts.Need-put-decimal-requires (rs t) (put-decimal-at t) put-decimal.Post
 put-decimal-put-decimal-requires t c κs = search (needs, decimal-length (c .before .before .before .args .n) (c .before .if1 .left) (omega arith))
 
--- src/lib.rt:26:23
 put-decimal-cast-glyph : (t : ℕ) → put-decimal-lts.Need-cast-glyph (rs t) (put-decimal-at t) put-decimal.Post
 put-decimal-cast-glyph t c = search needs
 
--- src/lib.rt:26:17
 put-decimal-glyph-requires-2 : (t : ℕ) → put-decimal-lts.Need-glyph-requires-2 (rs t) (put-decimal-at t) put-decimal.Post
 put-decimal-glyph-requires-2 t c κs = search needs
 
--- src/lib.rt:26:5
 put-decimal-slice-write-out-2 : (t : ℕ) → put-decimal-lts.Need-slice-write-out-2 (rs t) (put-decimal-at t) put-decimal.Post
 put-decimal-slice-write-out-2 t c = omega (arith, kept (c .before .before .before .put-decimal .ensures), c .before .before .before .put-decimal .ensures .past, decimal-length (c .before .before .before .before .before .before .before .args .n) (c .before .before .before .before .before .if1 .left) (omega arith))
 
--- src/lib.rt:27:5
 put-decimal-add-result-2 : (t : ℕ) → put-decimal-lts.Need-add-result-2 (rs t) (put-decimal-at t) put-decimal.Post
 put-decimal-add-result-2 t c = omega (arith, kept (c .before .before .before .put-decimal .ensures), c .before .before .before .put-decimal .ensures .past, decimal-length (c .before .before .before .before .before .before .before .args .n) (c .before .before .before .before .before .if1 .left) (omega arith))
 
--- src/lib.rt:17:1
 put-decimal-same-length-2 : (t : ℕ) → put-decimal-lts.Need-same-length-2 (rs t) (put-decimal-at t) put-decimal.Post
 put-decimal-same-length-2 t c = search needs
 
--- src/lib.rt:17:1
 put-decimal-returns-2 : (t : ℕ) → put-decimal-lts.Need-returns-2 (rs t) (put-decimal-at t) put-decimal.Post
 put-decimal-returns-2 t c = decimal-put (c .before .before .before .before .before .before .before .args .n) (c .glyph2 .result) (c .before .before .before .before .before .if1 .left) (omega arith) (c .before .before .before .put-decimal .ensures) (c .glyph2 .ensures)
 

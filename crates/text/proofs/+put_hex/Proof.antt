@@ -26,36 +26,28 @@ put-hex-below t = and 1 put-hex-kinds.ps (falls 1 put-hex-kinds.ps _<_ μ-put-he
 abbrev rs : ℕ → put-hex-lts.Claims
 rs t = (put-hex-below t, put-hex.Post, glyph-reads.Asked, glyph-reads.Learnt)
 
--- src/lib.rt:35:9
 put-hex-returns : (t : ℕ) → put-hex-lts.Need-returns (rs t) (put-hex-at t) put-hex.Post
 unfolding hexes
 put-hex-returns t c = let a = c .before .before .args in rw (c .if1 .taken) (record { bytes = refl; past = omega arith })
 
--- src/lib.rt:37:44
 put-hex-sub-put-hex : (t : ℕ) → put-hex-lts.Need-sub-put-hex (rs t) (put-hex-at t) put-hex.Post
 put-hex-sub-put-hex t c = search needs
 
--- src/lib.rt:37:9
 put-hex-put-hex-requires : (t : ℕ) → put-hex-lts.Need-put-hex-requires (rs t) (put-hex-at t) put-hex.Post
 put-hex-put-hex-requires t c κs = search needs
 
--- src/lib.rt:38:17
 put-hex-glyph-requires : (t : ℕ) → put-hex-lts.Need-glyph-requires (rs t) (put-hex-at t) put-hex.Post
 put-hex-glyph-requires t c κs = search needs
 
--- src/lib.rt:38:5
 put-hex-slice-write-out : (t : ℕ) → put-hex-lts.Need-slice-write-out (rs t) (put-hex-at t) put-hex.Post
 put-hex-slice-write-out t c = omega (arith, kept (c .before .before .before .put-hex .ensures), c .before .before .before .put-hex .ensures .past, length-hexes (c .before .before .before .before .before .before .before .args .k - 1) (c .before .before .before .before .before .before .before .args .bits / 16))
 
--- src/lib.rt:39:5
 put-hex-add-result : (t : ℕ) → put-hex-lts.Need-add-result (rs t) (put-hex-at t) put-hex.Post
 put-hex-add-result t c = omega (arith, kept (c .before .before .before .put-hex .ensures), c .before .before .before .put-hex .ensures .past, length-hexes (c .before .before .before .before .before .before .before .args .k - 1) (c .before .before .before .before .before .before .before .args .bits / 16))
 
--- src/lib.rt:30:1
 put-hex-same-length : (t : ℕ) → put-hex-lts.Need-same-length (rs t) (put-hex-at t) put-hex.Post
 put-hex-same-length t c = search needs
 
--- src/lib.rt:30:1
 put-hex-returns-2 : (t : ℕ) → put-hex-lts.Need-returns-2 (rs t) (put-hex-at t) put-hex.Post
 put-hex-returns-2 t c = hex-step (c .before .before .before .before .before .before .before .args .k) (c .before .before .before .before .before .before .before .args .bits) (c .glyph .result) (c .before .before .before .before .before .if1 .left) (c .before .before .before .put-hex .ensures) (c .glyph .ensures)
 

@@ -4,27 +4,21 @@ use borrow.Author.Needs.{needs}
 use Rattle.text.proofs.glyph.Statement.{statement}
 use Rattle.text.proofs.glyph.Tie as tie
 
--- src/lib.rt:14:22
 cast-result : tie.Need-cast-result
 cast-result c = search needs
 
--- src/lib.rt:14:17
 add-result : tie.Need-add-result
 add-result c = search needs
 
--- src/lib.rt:14:44
 cast-result-2 : tie.Need-cast-result-2
 cast-result-2 c = search needs
 
--- src/lib.rt:14:39
 add-result-2 : tie.Need-add-result-2
 add-result-2 c = search needs
 
--- src/lib.rt:10:1
 returns : tie.Need-returns
 returns c = simp (lt-ltb _ 10 (c .if1 .taken))
 
--- src/lib.rt:10:1
 returns-2 : tie.Need-returns-2
 returns-2 c = simp (le-ltb _ 10 (c .if1 .left))
 

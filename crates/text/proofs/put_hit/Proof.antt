@@ -7,41 +7,35 @@ use borrow.Author.Needs.{needs}
 use Rattle.text.proofs.put_hit.Statement.{statement}
 use Rattle.text.proofs.put_hit.Tie as tie
 
--- src/lib.rt:47:9
 put-decimal-requires : tie.Need-put-decimal-requires
 put-decimal-requires c κs = omega (arith, length-decimals 10 (c .before .before .args .index))
 
--- src/lib.rt:48:5
 slice-write-out : tie.Need-slice-write-out
 slice-write-out c = omega (arith, kept (c .before .before .put-decimal .ensures), c .before .before .put-decimal .ensures .past, length-decimals 10 (c .before .before .before .before .before .args .index))
 
--- src/lib.rt:49:26
 add-put-hex : tie.Need-add-put-hex
 add-put-hex c = omega (arith, kept (c .before .before .before .put-decimal .ensures), c .before .before .before .put-decimal .ensures .past, length-decimals 10 (c .before .before .before .before .before .before .args .index))
 
--- src/lib.rt:49:33
 float-to-bits-put-hex : tie.Need-float-to-bits-put-hex
 float-to-bits-put-hex c = search needs
 
--- src/lib.rt:49:9
 put-hex-requires : tie.Need-put-hex-requires
 put-hex-requires c κs = simp length-set (omega (arith, kept (c .before .before .before .put-decimal .ensures), c .before .before .before .put-decimal .ensures .past, length-decimals 10 (c .before .before .before .before .before .before .args .index)))
 
--- src/lib.rt:50:5
 slice-write-out-2 : tie.Need-slice-write-out-2
 slice-write-out-2 c = omega (arith, kept (c .before .before .before .before .before .before .put-decimal .ensures), c .before .before .before .before .before .before .put-decimal .ensures .past, length-decimals 10 (c .before .before .before .before .before .before .before .before .before .args .index), kept (c .before .before .put-hex .ensures), c .before .before .put-hex .ensures .past, length-hexes 16 (toBits binary64 (c .before .before .before .before .before .before .before .before .before .args .distance)), length-set (c .before .before .before .before .before .before .put-decimal .last .0) (c .before .before .before .before .before .before .put-decimal .result) 32)
 
--- src/lib.rt:51:5
 add-result : tie.Need-add-result
 add-result c = omega (arith, kept (c .before .before .before .before .before .before .put-decimal .ensures), c .before .before .before .before .before .before .put-decimal .ensures .past, length-decimals 10 (c .before .before .before .before .before .before .before .before .before .args .index), kept (c .before .before .put-hex .ensures), c .before .before .put-hex .ensures .past, length-hexes 16 (toBits binary64 (c .before .before .before .before .before .before .before .before .before .args .distance)), length-set (c .before .before .before .before .before .before .put-decimal .last .0) (c .before .before .before .before .before .before .put-decimal .result) 32)
 
--- src/lib.rt:43:1
 same-length : tie.Need-same-length
 same-length c = simp length-set (omega (arith, kept (c .before .before .before .before .before .before .put-decimal .ensures), c .before .before .before .before .before .before .put-decimal .ensures .past, length-decimals 10 (c .before .before .before .before .before .before .before .before .before .args .index), kept (c .before .before .put-hex .ensures), c .before .before .put-hex .ensures .past, length-hexes 16 (toBits binary64 (c .before .before .before .before .before .before .before .before .before .args .distance)), length-set (c .before .before .before .before .before .before .put-decimal .last .0) (c .before .before .before .before .before .before .put-decimal .result) 32))
 
--- src/lib.rt:43:1
 returns : tie.Need-returns
-returns c = let p = c .before .before .before .before .before .before .put-decimal in let q = c .before .before .put-hex in then (p .ensures) (then (one (p .last .0) (p .result) 32) (then (q .ensures) (one (q .last .0) (q .result) 10)))
+returns c =
+    let p = c .before .before .before .before .before .before .put-decimal in
+    let q = c .before .before .put-hex in
+    then (p .ensures) (then (one (p .last .0) (p .result) 32) (then (q .ensures) (one (q .last .0) (q .result) 10)))
 
 pub put-hit-spec : {M : Type 1} → statement M
 put-hit-spec =

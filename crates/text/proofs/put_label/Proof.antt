@@ -7,49 +7,40 @@ use borrow.Author.Needs.{needs}
 use Rattle.text.proofs.put_label.Statement.{statement}
 use Rattle.text.proofs.put_label.Tie as tie
 
--- src/lib.rt:95:9
 slice-write-out : tie.Need-slice-write-out
 slice-write-out c = search needs
 
--- src/lib.rt:96:13
 add-out : tie.Need-add-out
 add-out c = search needs
 
--- src/lib.rt:96:9
 slice-write-out-2 : tie.Need-slice-write-out-2
 slice-write-out-2 c = simp length-set (omega arith)
 
--- src/lib.rt:97:16
 add-result : tie.Need-add-result
 add-result c = search needs
 
--- src/lib.rt:97:9
 same-length : tie.Need-same-length
 same-length c = search needs
 
--- src/lib.rt:97:9
 returns : tie.Need-returns
 returns c = let a = c .before .before .args in simp (eq-eqb (a .label) 4294967295 (c .if1 .taken)) (two (a .out .now) (a .at) 45 10)
 
--- src/lib.rt:99:9
 put-decimal-requires : tie.Need-put-decimal-requires
 put-decimal-requires c κs = omega (arith, length-decimals 10 (c .before .before .before .args .label))
 
--- src/lib.rt:100:5
 slice-write-out-3 : tie.Need-slice-write-out-3
 slice-write-out-3 c = omega (arith, kept (c .before .before .put-decimal .ensures), c .before .before .put-decimal .ensures .past, length-decimals 10 (c .before .before .before .before .before .before .args .label))
 
--- src/lib.rt:101:5
 add-result-2 : tie.Need-add-result-2
 add-result-2 c = omega (arith, kept (c .before .before .put-decimal .ensures), c .before .before .put-decimal .ensures .past, length-decimals 10 (c .before .before .before .before .before .before .args .label))
 
--- src/lib.rt:90:1
 same-length-2 : tie.Need-same-length-2
 same-length-2 c = simp length-set (omega (arith, kept (c .before .before .put-decimal .ensures), c .before .before .put-decimal .ensures .past, length-decimals 10 (c .before .before .before .before .before .before .args .label)))
 
--- src/lib.rt:90:1
 returns-2 : tie.Need-returns-2
-returns-2 c = let p = c .before .before .put-decimal in simp (ne-eqb (c .before .before .before .before .before .before .args .label) 4294967295 (c .before .before .before .before .if1 .left)) (then (p .ensures) (one (p .last .0) (p .result) 10))
+returns-2 c =
+    let p = c .before .before .put-decimal in
+    simp (ne-eqb (c .before .before .before .before .before .before .args .label) 4294967295 (c .before .before .before .before .if1 .left)) (then (p .ensures) (one (p .last .0) (p .result) 10))
 
 pub put-label-spec : {M : Type 1} → statement M
 put-label-spec =

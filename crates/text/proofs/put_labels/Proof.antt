@@ -14,41 +14,40 @@ Inv-loop out₀ at labels count i₀ w₀ out i w = Put out₀ at (label-lines i
 abbrev μ-loop : tie.MeasureT-loop
 μ-loop out₀ at labels count i₀ w₀ out i w = count - i
 
--- src/lib.rt:132:5
 loop-holds : tie.Need-loop-holds Inv-loop μ-loop
 loop-holds c = let a = c .before .before .args in (lines-none (a .out .now) (a .at) _, omega arith)
 
--- src/lib.rt:133:31
 mul-put-label : tie.Need-mul-put-label Inv-loop μ-loop
 mul-put-label c = search needs
 
--- src/lib.rt:133:31
 shared-slice-read-put-label : tie.Need-shared-slice-read-put-label Inv-loop μ-loop
 shared-slice-read-put-label c = search needs
 
--- src/lib.rt:133:9
 put-label-requires : tie.Need-put-label-requires Inv-loop μ-loop
-put-label-requires c κs = let l = c .before .before .before .loop in omega (arith, c .before .before .before .before .before .before .pre .room, kept (l .inv .0), l .inv .0 .past, short-labels (l .i) (c .before .before .before .before .before .before .args .labels .now), c .before .before .loop-test .taken)
+put-label-requires c κs =
+    let l = c .before .before .before .loop in
+    omega (arith, c .before .before .before .before .before .before .pre .room, kept (l .inv .0), l .inv .0 .past, short-labels (l .i) (c .before .before .before .before .before .before .args .labels .now), c .before .before .loop-test .taken)
 
--- src/lib.rt:134:9
 add-i : tie.Need-add-i Inv-loop μ-loop
 add-i c = search needs
 
--- src/lib.rt:132:5
 loop-less : tie.Need-loop-less Inv-loop μ-loop
 loop-less c = search needs
 
--- src/lib.rt:132:5
 loop-again : tie.Need-loop-again Inv-loop μ-loop
-loop-again c = let l = c .before .before .before .before .before .before .loop in (lines-more (l .i) _ (l .inv .0) (c .before .before .put-label .ensures), omega (arith, c .before .before .before .before .before .loop-test .taken))
+loop-again c =
+    let l = c .before .before .before .before .before .before .loop in
+    (lines-more (l .i) _ (l .inv .0) (c .before .before .put-label .ensures), omega (arith, c .before .before .before .before .before .loop-test .taken))
 
--- src/lib.rt:126:1
 same-length : tie.Need-same-length Inv-loop μ-loop
 same-length c = kept (c .before .loop .inv .0)
 
--- src/lib.rt:126:1
 returns : tie.Need-returns Inv-loop μ-loop
-returns c = let a = c .before .before .before .before .args in let l = c .before .loop in let e : l .i ≡ a .count = omega (arith, l .inv .1, c .loop-test .left) in subst (λ (k : ℕ). Put (a .out .now) (a .at) (label-lines k (a .labels .now)) (l .out) (l .w)) e (l .inv .0)
+returns c =
+    let a = c .before .before .before .before .args in
+    let l = c .before .loop in
+    let e : l .i ≡ a .count = omega (arith, l .inv .1, c .loop-test .left) in
+    subst (λ (k : ℕ). Put (a .out .now) (a .at) (label-lines k (a .labels .now)) (l .out) (l .w)) e (l .inv .0)
 
 pub put-labels-spec : {M : Type 1} → statement M
 put-labels-spec =

@@ -7,31 +7,24 @@ use borrow.Author.Needs.{needs}
 use Rattle.text.proofs.put_nearest.Statement.{statement}
 use Rattle.text.proofs.put_nearest.Tie as tie
 
--- src/lib.rt:59:5
 slice-write-out : tie.Need-slice-write-out
 slice-write-out c = search needs
 
--- src/lib.rt:60:9
 add-out : tie.Need-add-out
 add-out c = search needs
 
--- src/lib.rt:60:5
 slice-write-out-2 : tie.Need-slice-write-out-2
 slice-write-out-2 c = simp length-set (omega arith)
 
--- src/lib.rt:61:18
 add-put-hit : tie.Need-add-put-hit
 add-put-hit c = search needs
 
--- src/lib.rt:61:5
 put-hit-requires : tie.Need-put-hit-requires
 put-hit-requires c κs = simp length-set (search needs)
 
--- src/lib.rt:55:1
 same-length : tie.Need-same-length
 same-length c = omega (arith, kept (c .before .before .put-hit .ensures), length-set (c .before .before .before .before .before .args .out .now) (c .before .before .before .before .before .args .at) 78, length-set (set (c .before .before .before .before .before .args .out .now) (c .before .before .before .before .before .args .at) 78) (c .before .before .before .before .before .args .at + 1) 32)
 
--- src/lib.rt:55:1
 returns : tie.Need-returns
 returns c = let a = c .before .before .before .before .before .args in then (two (a .out .now) (a .at) 78 32) (c .before .before .put-hit .ensures)
 

@@ -7,67 +7,51 @@ use borrow.Author.Needs.{needs}
 use Rattle.text.proofs.put_none.Statement.{statement}
 use Rattle.text.proofs.put_none.Tie as tie
 
--- src/lib.rt:68:5
 slice-write-out : tie.Need-slice-write-out
 slice-write-out c = search needs
 
--- src/lib.rt:69:9
 add-out : tie.Need-add-out
 add-out c = search needs
 
--- src/lib.rt:69:5
 slice-write-out-2 : tie.Need-slice-write-out-2
 slice-write-out-2 c = simp length-set (omega arith)
 
--- src/lib.rt:70:9
 add-out-2 : tie.Need-add-out-2
 add-out-2 c = search needs
 
--- src/lib.rt:70:5
 slice-write-out-3 : tie.Need-slice-write-out-3
 slice-write-out-3 c = simp length-set (omega arith)
 
--- src/lib.rt:71:9
 add-out-3 : tie.Need-add-out-3
 add-out-3 c = search needs
 
--- src/lib.rt:71:5
 slice-write-out-4 : tie.Need-slice-write-out-4
 slice-write-out-4 c = simp length-set (omega arith)
 
--- src/lib.rt:72:9
 add-out-4 : tie.Need-add-out-4
 add-out-4 c = search needs
 
--- src/lib.rt:72:5
 slice-write-out-5 : tie.Need-slice-write-out-5
 slice-write-out-5 c = simp length-set (omega arith)
 
--- src/lib.rt:73:9
 add-out-5 : tie.Need-add-out-5
 add-out-5 c = search needs
 
--- src/lib.rt:73:5
 slice-write-out-6 : tie.Need-slice-write-out-6
 slice-write-out-6 c = simp length-set (omega arith)
 
--- src/lib.rt:74:9
 add-out-6 : tie.Need-add-out-6
 add-out-6 c = search needs
 
--- src/lib.rt:74:5
 slice-write-out-7 : tie.Need-slice-write-out-7
 slice-write-out-7 c = simp length-set (omega arith)
 
--- src/lib.rt:75:5
 add-result : tie.Need-add-result
 add-result c = search needs
 
--- src/lib.rt:64:1
 same-length : tie.Need-same-length
 same-length c = search needs
 
--- src/lib.rt:64:1
 returns : tie.Need-returns
 returns c = record { bytes = simp unary-clauses; past = refl }
 

@@ -62,25 +62,33 @@ slice-relend-prefix-print-built : tie.Need-slice-relend-prefix-print-built
 slice-relend-prefix-print-built c = search needs
 
 slice-aggregate-print-built : tie.Need-slice-aggregate-print-built
-slice-aggregate-print-built c = let u = c .before .before .before .before .before .before .up-to in sym (length-take-le (u .result) (c .before .before .before .before .before .before .before .before .before .before .before .before .args .points .now) (u .ensures))
+slice-aggregate-print-built c =
+    let u = c .before .before .before .before .before .before .up-to in
+    sym (length-take-le (u .result) (c .before .before .before .before .before .before .before .before .before .before .before .before .args .points .now) (u .ensures))
 
 slice-relend-prefix-print-built-2 : tie.Need-slice-relend-prefix-print-built-2
 slice-relend-prefix-print-built-2 c = search needs
 
 slice-aggregate-print-built-2 : tie.Need-slice-aggregate-print-built-2
-slice-aggregate-print-built-2 c = let u = c .before .before .before .before .before .up-to3 in sym (length-take-le (u .result) (c .before .before .before .before .before .before .before .before .before .before .before .before .before .args .indices .now) (u .ensures))
+slice-aggregate-print-built-2 c =
+    let u = c .before .before .before .before .before .up-to3 in
+    sym (length-take-le (u .result) (c .before .before .before .before .before .before .before .before .before .before .before .before .before .args .indices .now) (u .ensures))
 
 slice-relend-prefix-print-built-3 : tie.Need-slice-relend-prefix-print-built-3
 slice-relend-prefix-print-built-3 c = search needs
 
 slice-aggregate-print-built-3 : tie.Need-slice-aggregate-print-built-3
-slice-aggregate-print-built-3 c = let u = c .before .before .before .before .before .up-to4 in sym (length-take-le (6 * u .result) (c .before .before .before .before .before .before .before .before .before .before .before .before .before .before .args .boxes .now) (omega (arith, u .ensures)))
+slice-aggregate-print-built-3 c =
+    let u = c .before .before .before .before .before .up-to4 in
+    sym (length-take-le (6 * u .result) (c .before .before .before .before .before .before .before .before .before .before .before .before .before .before .args .boxes .now) (omega (arith, u .ensures)))
 
 slice-relend-prefix-print-built-4 : tie.Need-slice-relend-prefix-print-built-4
 slice-relend-prefix-print-built-4 c = search needs
 
 slice-aggregate-print-built-4 : tie.Need-slice-aggregate-print-built-4
-slice-aggregate-print-built-4 c = let u = c .before .before .before .before .before .up-to5 in sym (length-take-le (4 * u .result) (c .before .before .before .before .before .before .before .before .before .before .before .before .before .before .before .args .links .now) (omega (arith, u .ensures)))
+slice-aggregate-print-built-4 c =
+    let u = c .before .before .before .before .before .up-to5 in
+    sym (length-take-le (4 * u .result) (c .before .before .before .before .before .before .before .before .before .before .before .before .before .before .before .args .links .now) (omega (arith, u .ensures)))
 
 print-built-requires : tie.Need-print-built-requires
 print-built-requires c κs =

@@ -68,7 +68,9 @@ visit-requires c κs =
     record { search = s .pre .search; growing = c .before .before .before .loop .inv; some = c .before .before .loop-test .taken; asked = s .pre .core .asked }
 
 add-head-2 : tie.Need-add-head-2 Inv-loop μ-loop
-add-head-2 c = let G = c .before .before .before .before .before .before .before .before .loop .inv in omega (arith, c .before .before .before .before .before .before .before .loop-test .taken, G .room, G .sizes .in-limit)
+add-head-2 c =
+    let G = c .before .before .before .before .before .before .before .before .loop .inv in
+    omega (arith, c .before .before .before .before .before .before .before .loop-test .taken, G .room, G .sizes .in-limit)
 
 loop-less : tie.Need-loop-less Inv-loop μ-loop
 loop-less c = omega (arith, c .before .before .before .before .before .before .before .loop-test .taken, c .before .before .before .before .before .before .before .before .loop .inv .room)
@@ -83,7 +85,9 @@ same-length-2 : tie.Need-same-length-2 Inv-loop μ-loop
 same-length-2 c = c .before .loop .inv .sizes .work ∙ sym (c .before .before .before .before .before .before .before .before .before .before .before .before .before .before .before .pre .between .sizes .work)
 
 returns : tie.Need-returns Inv-loop μ-loop
-returns c = let s = c .before .before .before .before .before .before .before .before .before .before .before .before .before .before .before in growing-end (rel s) (n s) (s .args .m) (c .before .loop .inv) (c .loop-test .left)
+returns c =
+    let s = c .before .before .before .before .before .before .before .before .before .before .before .before .before .before .before in
+    growing-end (rel s) (n s) (s .args .m) (c .before .loop .inv) (c .loop-test .left)
 
 pub expand-spec : {M : Type 1} → statement M
 expand-spec =
