@@ -1,65 +1,85 @@
 -- The walk that keeps its hits in a slice goes hand in hand with the definition's: its hits, in the order in which they were
--- met, sort to the definition's, and stand in the slice as far as there is room. So a first walk without room counts the
--- hits, and a second one with room for all of them leaves them in front. Assumes nothing.
+-- met, sort to the definition's, and stand in front of the slice where there is room for them; behind the room nothing
+-- changes. So a first walk without room counts the hits, and a second one with room for just as many leaves them in front
+-- and the rest as it was. Assumes nothing.
 use mathlib.Core.Path.{_≡_, refl, sym, ap, _∙_, subst}
 use mathlib.Core.Bool.{Bool, true, false, cond}
 use mathlib.Core.List.{List, [], _∷_, _++_}
 use Prim.Native.Nat.{ℕ, _+_, _≤_, _<_}
+use native.Mathlib.Numerals.{add-one}
 use native.Mathlib.Omega.{arith}
 use lib.Dec.{ltb}
 use lib.Ieee.{Float, le}
-use lib.ListN.{length, set, take, drop, replicate, length-append, take-append-drop}
-use lib.Seq.{take-all, take-nil, take-append-le, take-at, drop-at}
-use borrow.Author.Tests.{lt-ltb, le-ltb, ltb-true, ltb-false}
+use lib.ListN.{length, set, take, drop, replicate, length-append, length-set, take-append-drop}
+use lib.Seq.{take-set-le, take-suc-set, drop-set-lt}
+use borrow.Author.Tests.{lt-ltb, le-ltb, ltb-true}
 use Rattle.distance.specs.declared.Coord.{Coord}
 use Rattle.tree.specs.Accepted.{Tree, count}
 use Rattle.rising.specs.Sort.{insert, sort, SortedTo}
 use Rattle.rising.proofs.Sorting.{sort-more, sort-length}
-use Rattle.search.specs.Walk.{Walk, damage, done, Got, broken, got, outcome, walk, walk-all, Walks}
+use Rattle.search.specs.Walk.{Walk, damage, done, Got, broken, got, outcome, walk, walk-all}
 use Rattle.search.specs.Order.{point}
 use Rattle.search.specs.Refusal.{told}
 use Rattle.search.specs.Result.{zeros}
 use Rattle.search.specs.declared.Found.the-variants.{Hits, Refused}
 use Rattle.search.proofs.Alike.{Like, Alike, walk-alike}
-use Rattle.search.proofs.Fronts.{front-more}
 use Rattle.radius.specs.Within.{within, finds, reply-of, Answered}
-use Rattle.radius.specs.Keeping.{Held, held, keep, keeping}
+use Rattle.radius.specs.Keeping.{Held, held, put, keep, keeping}
+
+-- ---- what a put leaves of a slice
+module _ (room n i : ℕ) (out : List ℕ) where
+  put-past : drop room (put room n out i) ≡ drop room out
+  put-past = go (ltb n room) refl
+    where
+      go : (b : Bool) → ltb n room ≡ b → drop room (cond b (set out n i) out) ≡ drop room out
+      go true e = drop-set-lt room out n i (ltb-true n room e)
+      go false e = refl
+
+  put-long : length (put room n out i) ≡ length out
+  put-long = go (ltb n room)
+    where
+      go : (b : Bool) → length (cond b (set out n i) out) ≡ length out
+      go true = length-set out n i
+      go false = refl
+
+  put-before : take n (put room n out i) ≡ take n out
+  put-before = go (ltb n room)
+    where
+      go : (b : Bool) → take n (cond b (set out n i) out) ≡ take n out
+      go true = take-set-le n out n i (omega arith)
+      go false = refl
+
+  put-there : n < room → room ≤ length out → take (n + 1) (put room n out i) ≡ take n out ++ (i ∷ [])
+  put-there h k = rw (lt-ltb n room h, add-one) (take-suc-set out n i (omega arith))
 
 -- ---- hand in hand
--- order: the hits as they were met
+-- order: the hits as they were met; where there is room for them the slice begins with them
 pub record Tied (room : ℕ) (out : List ℕ) (h : Held) (z : List ℕ) : Type 0 where
   pub order : List ℕ
   pub counted : h .count ≡ length order
-  pub stored : h .out ≡ take room order ++ drop (length (take room order)) out
+  pub stored : h .count ≤ room → take (h .count) (h .out) ≡ order
+  pub past : drop room (h .out) ≡ drop room out
+  pub long : length (h .out) ≡ length out
   pub sorted : sort order ≡ z
 
 tied-none : (room : ℕ) (out : List ℕ) → Tied room out (held 0 out) []
-tied-none room out = record { order = []; counted = refl; stored = rw (take-nil {A = ℕ} room); sorted = refl }
-
-store : (room i : ℕ) (out : List ℕ) (h : Held) (order : List ℕ) → room ≤ length out → h .count ≡ length order → h .out ≡ take room order ++ drop (length (take room order)) out
-    → cond (ltb (h .count) room) (set (h .out) (h .count) i) (h .out) ≡ take room (order ++ (i ∷ [])) ++ drop (length (take room (order ++ (i ∷ [])))) out
-store room i out h order k c s = go (ltb (h .count) room) refl
-  where
-    more : length (order ++ (i ∷ [])) ≡ h .count + 1
-    more = length-append order (i ∷ []) ∙ ap (λ (n : ℕ). n + 1) (sym c)
-
-    go : (b : Bool) → ltb (h .count) room ≡ b → cond b (set (h .out) (h .count) i) (h .out) ≡ take room (order ++ (i ∷ [])) ++ drop (length (take room (order ++ (i ∷ [])))) out
-    go true e =
-        let l = ltb-true (h .count) room e in
-        ap (λ (z : List ℕ). set z (h .count) i) (s ∙ ap (λ (z : List ℕ). z ++ drop (length z) out) (take-all room order (omega arith)) ∙ ap (λ (n : ℕ). order ++ drop n out) (sym c))
-        ∙ front-more order out 0 i (h .count) (sym c) (omega arith)
-        ∙ ap (λ (n : ℕ). (order ++ (i ∷ [])) ++ drop n out) (sym more)
-        ∙ sym (ap (λ (z : List ℕ). z ++ drop (length z) out) (take-all room (order ++ (i ∷ [])) (omega (arith, more))))
-    go false e =
-        let l = ltb-false (h .count) room e in
-        s ∙ sym (ap (λ (z : List ℕ). z ++ drop (length z) out) (take-append-le room order (i ∷ []) (omega arith)))
+tied-none room out = record { order = []; counted = refl; stored = λ h. refl; past = refl; long = refl; sorted = refl }
 
 keep-tied : (room : ℕ) (out : List ℕ) → room ≤ length out → (hit : Bool) (h : Held) (z : List ℕ) (i : ℕ) → Tied room out h z → Tied room out (keep room hit h i) (cond hit (insert i z) z)
-keep-tied room out k false h z i T = T
+keep-tied room out k false h z i T = record {
+  order = T .order;
+  counted = T .counted;
+  stored = λ l. put-before room (h .count) i (h .out) ∙ T .stored l;
+  past = put-past room (h .count) i (h .out) ∙ T .past;
+  long = put-long room (h .count) i (h .out) ∙ T .long;
+  sorted = T .sorted;
+}
 keep-tied room out k true h z i T = record {
   order = T .order ++ (i ∷ []);
   counted = ap (λ (n : ℕ). n + 1) (T .counted) ∙ sym (length-append (T .order) (i ∷ []));
-  stored = store room i out h (T .order) k (T .counted) (T .stored);
+  stored = λ l. put-there room (h .count) i (h .out) (omega arith) (omega (arith, T .long)) ∙ ap (λ (l : List ℕ). l ++ (i ∷ [])) (T .stored (omega arith));
+  past = put-past room (h .count) i (h .out) ∙ T .past;
+  long = put-long room (h .count) i (h .out) ∙ T .long;
   sorted = sort-more (T .order) i ∙ ap (insert i) (T .sorted);
 }
 
@@ -83,16 +103,15 @@ alike-meets : (room : ℕ) (out : List ℕ) (w : Walk Held) (u : Walk (List ℕ)
 alike-meets room out damage damage h = tt
 alike-meets room out (done s n d) (done z m e) h = h
 
-pub walk-meets : (t : Tree) (q : Coord) (r2 : Float) (room : ℕ) (out : List ℕ) → room ≤ length out → count t ≤ length (t .indices)
-    → (g : Got Held) → Walks t (keeping room (t .points) q r2) 0 0 (count t) (held 0 out) g → Meets room out g (outcome (walk-all t (within (t .points) q r2) []))
-walk-meets t q r2 room out k l g W =
-    rw (le-ltb (length (t .indices)) (count t) l)
-    (subst (λ (x : Got Held). Meets room out x (outcome (walk t (within (t .points) q r2) (count t) 0 0 (count t) []))) (sym (W (count t) (omega arith)))
-    (alike-meets room out (walk t (keeping room (t .points) q r2) (count t) 0 0 (count t) (held 0 out)) (walk t (within (t .points) q r2) (count t) 0 0 (count t) [])
-    (walk-alike (Tied room out) t (keeping room (t .points) q r2) (within (t .points) q r2) (keeping-like room out k (t .points) q r2 (count t)) (count t) 0 0 (count t) (held 0 out) [] (tied-none room out))))
-
-pub short-damage : (t : Tree) (q : Coord) (r2 : Float) → length (t .indices) < count t → outcome (walk-all t (within (t .points) q r2) []) ≡ broken
-short-damage t q r2 h = rw (lt-ltb (length (t .indices)) (count t) h)
+pub walk-meets : (t : Tree) (q : Coord) (r2 : Float) (room : ℕ) (out : List ℕ) → room ≤ length out
+    → (g : Got Held) → g ≡ outcome (walk-all t (keeping room (t .points) q r2) (held 0 out)) → Meets room out g (outcome (walk-all t (within (t .points) q r2) []))
+walk-meets t q r2 room out k g W =
+    subst (λ (x : Got Held). Meets room out x (outcome (walk-all t (within (t .points) q r2) []))) (sym W)
+    (alike-meets room out (walk-all t (keeping room (t .points) q r2) (held 0 out)) (walk-all t (within (t .points) q r2) []) (go (ltb (length (t .indices)) (count t))))
+  where
+    go : (b : Bool) → Alike (Tied room out) (cond b damage (walk t (keeping room (t .points) q r2) (count t) 0 0 (count t) (held 0 out))) (cond b damage (walk t (within (t .points) q r2) (count t) 0 0 (count t) []))
+    go true = tt
+    go false = walk-alike (Tied room out) t (keeping room (t .points) q r2) (within (t .points) q r2) (keeping-like room out k (t .points) q r2 (count t)) (count t) 0 0 (count t) (held 0 out) [] (tied-none room out)
 
 -- ---- the answers
 pub answered-damage : (u : Got (List ℕ)) (room : ℕ) (is₀ is : List ℕ) → u ≡ broken → is ≡ zeros is₀ → Answered (reply-of u) room is₀ (Refused 9 0) is
@@ -139,7 +158,7 @@ module _ (is₀ : List ℕ) (g : Got Held) (u : Got (List ℕ)) (F : Meets 0 is�
   untouched = go u met
     where
       go : (u : Got (List ℕ)) → Meets 0 is₀ (got (held c is₁)) u → is₁ ≡ is₀
-      go (got z) m = m .stored
+      go (got z) m = m .past
 
   -- there is not room for all
   pub answered-short : (room : ℕ) → room < c → Answered (reply-of u) room is₀ (Refused 8 c) is₁
@@ -148,7 +167,7 @@ module _ (is₀ : List ℕ) (g : Got Held) (u : Got (List ℕ)) (F : Meets 0 is�
       go : (u : Got (List ℕ)) → Meets 0 is₀ (got (held c is₁)) u → Answered (reply-of u) room is₀ (Refused 8 c) is₁
       go (got z) m =
           let e : c ≡ length z = m .counted ∙ sym (sort-length (m .order)) ∙ ap length (m .sorted) in
-          finds-short z is₀ is₁ room c e h (m .stored)
+          finds-short z is₀ is₁ room c e h (m .past)
 
   -- there is: the second walk, and the sort
   module _ (room : ℕ) (fits : c ≤ room) (inside : room ≤ length is₀) (g' : Got Held) (M : Meets c is₁ g' u) (n : ℕ) (is₂ : List ℕ) (second : g' ≡ got (held n is₂)) where
@@ -167,11 +186,8 @@ module _ (is₀ : List ℕ) (g : Got Held) (u : Got (List ℕ)) (F : Meets 0 is�
         go : (u : Got (List ℕ)) → Meets 0 is₀ (got (held c is₁)) u → Meets c is₁ (got (held n is₂)) u → Answered (reply-of u) room is₀ (Hits n) is₃
         go (got z) a b =
             let e : n ≡ length z = b .counted ∙ sym (sort-length (b .order)) ∙ ap length (b .sorted) in
-            let w : is₂ ≡ b .order ++ drop n is₀ =
-            b .stored ∙ ap (λ (x : List ℕ). x ++ drop (length x) is₁) (take-all c (b .order) (omega (arith, as-many, b .counted)))
-            ∙ ap (λ (k : ℕ). b .order ++ drop k is₁) (sym (b .counted)) ∙ ap (λ (x : List ℕ). b .order ++ drop n x) untouched in
-            let front : take n is₃ ≡ z = S .front ∙ ap sort (ap (take n) w ∙ take-at (b .order) (drop n is₀) n (sym (b .counted))) ∙ b .sorted in
-            let past : drop n is₃ ≡ drop n is₀ = S .past ∙ ap (drop n) w ∙ drop-at (b .order) (drop n is₀) n (sym (b .counted)) in
+            let front : take n is₃ ≡ z = S .front ∙ ap sort (b .stored (omega (arith, as-many))) ∙ b .sorted in
+            let past : drop n is₃ ≡ drop n is₀ = S .past ∙ ap (λ (k : ℕ). drop k is₂) as-many ∙ b .past ∙ ap (drop c) untouched ∙ ap (λ (k : ℕ). drop k is₀) (sym as-many) in
             let all : is₃ ≡ z ++ drop (length z) is₀ =
             sym (take-append-drop n is₃) ∙ ap (λ (x : List ℕ). x ++ drop n is₃) front ∙ ap (λ (x : List ℕ). z ++ x) past ∙ ap (λ (k : ℕ). z ++ drop k is₀) e in
             finds-room z is₀ is₃ room n e (omega (arith, as-many)) all

@@ -1,4 +1,4 @@
--- Small steps that the proofs of the walk's functions cite: what a tally comes to, case by case, and how long a part is.
+-- Small steps that the proofs of the walk's functions cite: what a count comes to, case by case, and how long a part is.
 -- Assumes nothing.
 use mathlib.Core.Path.{_≡_, sym, ap, _∙_, subst}
 use mathlib.Core.Bool.{Bool, true, false, cond}
@@ -15,26 +15,24 @@ use Rattle.distance.specs.declared.Coord.{Coord}
 use Rattle.tree.specs.Node.{part}
 use Rattle.search.specs.Walk.{Search, scan, leaf-scan, broken, got}
 use Rattle.radius.specs.Keeping.{held, kept, Few}
-use Rattle.radius.specs.declared.Tally.{Tally}
-use Rattle.radius.specs.declared.Tally.the-variants.{Count, Damaged}
 
-module _ (r : Tally) (out : List ℕ) where
-  pub kept-damaged : r ≡ Damaged → kept r out ≡ broken
+module _ (r : Bool) (n : ℕ) (out : List ℕ) where
+  pub kept-damaged : r ≡ false → kept r n out ≡ broken
   kept-damaged h = rw h
 
-  pub kept-count : (n : ℕ) → r ≡ Count n → kept r out ≡ got (held n out)
-  kept-count n h = rw h
+  pub kept-count : r ≡ true → kept r n out ≡ got (held n out)
+  kept-count h = rw h
 
-pub few-count : (r : Tally) (n m : ℕ) → r ≡ Count n → Few r m → n ≤ m
-few-count r n m h f = subst (λ (z : Tally). Few z m) h f
+pub few-count : (r : Bool) (n m : ℕ) → r ≡ true → Few r n m → n ≤ m
+few-count r n m h f = subst (λ (z : Bool). Few z n m) h f
 
-pub few-more : (r : Tally) (m n : ℕ) → Few r m → m ≤ n → Few r n
-few-more (Count k) m n f h = le-trans f h
-few-more Damaged m n f h = tt
+pub few-more : (r : Bool) (k m n : ℕ) → Few r k m → m ≤ n → Few r k n
+few-more true k m n f h = le-trans f h
+few-more false k m n f h = tt
 
 -- one walk, and another behind it
-pub few-both : (r u : Tally) (n c a m e : ℕ) → r ≡ Count n → Few r (c + (m - a)) → a ≤ m → m ≤ e → Few u (n + (e - m)) → Few u (c + (e - a))
-few-both r u n c a m e h f l k g = let z = few-count r n (c + (m - a)) h f in few-more u (n + (e - m)) (c + (e - a)) g (omega arith)
+pub few-both : (r u : Bool) (k n c a m e : ℕ) → r ≡ true → Few r n (c + (m - a)) → a ≤ m → m ≤ e → Few u k (n + (e - m)) → Few u k (c + (e - a))
+few-both r u k n c a m e h f l g w = let z = few-count r n (c + (m - a)) h f in few-more u k (n + (e - m)) (c + (e - a)) w (omega arith)
 
 pub part-length : (l : List ℕ) (a e : ℕ) → length (part l a e) ≤ e - a
 part-length l a e = go (ltb e a) (ltb (length l) e)

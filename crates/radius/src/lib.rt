@@ -7,39 +7,42 @@ use search::Found;
 use tree::Kind;
 ghost use mathlib.Core.Path.{_≡_};
 ghost use mathlib.Core.Bool.{true, cond};
-ghost use Prim.Native.Nat.{_+_, _-_, _≤_, min};
+ghost use Prim.Native.Nat.{_+_, _-_, _*_, _<_, _≤_, min};
 ghost use mathlib.Core.List.{[]};
 ghost use lib.Dec.{eqb};
 ghost use lib.ListN.{length, take};
+ghost use lib.Ieee.{lt};
+ghost use Rattle.distance.specs.Distance.{bound};
 ghost use Rattle.tree.specs.Points.{size};
+ghost use Rattle.tree.specs.Node.{bounds};
 ghost use Rattle.tree.specs.Accepted.{tree};
 ghost use Rattle.search.specs.Result.{float-zeros};
 ghost use Rattle.search.specs.Walk.{scan, leaf-scan, walk-all, outcome, Walks};
 ghost use Rattle.radius.specs.Within.{place, within, reply, reply-of, Answered, InRoom, WithDistances, RootsInFront, squares};
 ghost use Rattle.radius.specs.Keeping.{held, keep, keeping, kept, Few, Roomy, Starts, Collectable, Measurable};
 
-// How many hits a walk has met, or that it met damage.
-pub enum Tally {
-    Count(usize),
-    Damaged,
+// One more where the point is a hit. Compiled to a sum without a jump, which nobody could foretell.
+fn counted(count: usize, hit: bool) -> usize
+    requires { ⌜ count < 4294967296 ⌝ }
+    ensures { λ r. ⌜ (r ≡ cond hit (count + 1) count) × (r ≤ count + 1) ⌝ }
+{
+    if hit { count + 1 } else { count }
 }
 
-// A point is counted if it is a hit, and stored where there is room.
+// A point is put where the next hit belongs, if there is room, and counted if it is a hit: else the next one takes its
+// place. So what is stored depends on no jump either.
 fn keep(out: &mut [u32], room: usize, count: usize, hit: bool, index: u32) -> usize
     requires { ⌜ Roomy room count 1 (now out) ⌝ }
     ensures { λ r. ⌜ (held r (now (out .exit)) ≡ keep room hit (held count (now (out .entry))) index) × (r ≤ count + 1) ⌝ }
 {
-    if !hit {
-        return count;
-    }
     if count < room {
         out[count] = index;
-        return count + 1;
+        return counted(count, hit);
     }
-    count + 1
+    counted(count, hit)
 }
 
-// The points of a part, each tested.
+// The points of a part, each tested, with the count in a cell; false where an index is no point's.
 fn scan_part(
     points: &[f64],
     part: &[u32],
@@ -47,18 +50,18 @@ fn scan_part(
     r2: f64,
     out: &mut [u32],
     room: usize,
-    count: usize,
-) -> Tally
-    requires { ⌜ Roomy room count (length (now part)) (now out) ⌝ }
-    ensures { λ r. ⌜ (kept r (now (out .exit)) ≡ outcome (scan (size (now (points .entry))) (keeping room (now (points .entry)) q r2 .next) 1 (held count (now (out .entry))) (now (part .entry)))) × Few r (count + length (now (part .entry))) ⌝ }
+    count: &mut usize,
+) -> bool
+    requires { ⌜ Roomy room (now count) (length (now part)) (now out) ⌝ }
+    ensures { λ r. ⌜ (kept r (now (count .exit)) (now (out .exit)) ≡ outcome (scan (size (now (points .entry))) (keeping room (now (points .entry)) q r2 .next) 1 (held (now (count .entry)) (now (out .entry))) (now (part .entry)))) × Few r (now (count .exit)) (now (count .entry) + length (now (part .entry))) ⌝ }
 {
-    let mut n = count;
+    let mut n = *count;
     let mut k: usize = 0;
     while k < part.len() {
         let w = part[k];
         let i = w as usize;
         if i >= points.len() / 2 {
-            return Tally::Damaged;
+            return false;
         }
         let p = Coord {
             x: points[2 * i],
@@ -68,25 +71,27 @@ fn scan_part(
         n = keep(out, room, n, d <= r2, w);
         k += 1;
     }
-    Tally::Count(n)
+    *count = n;
+    true
 }
 
 // The points of a part that lies within the radius whole: its indices are copied, and no distance is worked out.
-fn take_part(size: usize, part: &[u32], out: &mut [u32], room: usize, count: usize) -> Tally
-    requires { ⌜ Roomy room count (length (now part)) (now out) ⌝ }
-    ensures { λ r. ⌜ (kept r (now (out .exit)) ≡ outcome (scan size (keep room true) 0 (held count (now (out .entry))) (now (part .entry)))) × Few r (count + length (now (part .entry))) ⌝ }
+fn take_part(size: usize, part: &[u32], out: &mut [u32], room: usize, count: &mut usize) -> bool
+    requires { ⌜ Roomy room (now count) (length (now part)) (now out) ⌝ }
+    ensures { λ r. ⌜ (kept r (now (count .exit)) (now (out .exit)) ≡ outcome (scan size (keep room true) 0 (held (now (count .entry)) (now (out .entry))) (now (part .entry)))) × Few r (now (count .exit)) (now (count .entry) + length (now (part .entry))) ⌝ }
 {
-    let mut n = count;
+    let mut n = *count;
     let mut k: usize = 0;
     while k < part.len() {
         let w = part[k];
         if w as usize >= size {
-            return Tally::Damaged;
+            return false;
         }
         n = keep(out, room, n, true, w);
         k += 1;
     }
-    Tally::Count(n)
+    *count = n;
+    true
 }
 
 // The points of a leaf with the box b.
@@ -98,10 +103,10 @@ fn leaf_part(
     b: Bounds,
     out: &mut [u32],
     room: usize,
-    count: usize,
-) -> Tally
-    requires { ⌜ Roomy room count (length (now part)) (now out) ⌝ }
-    ensures { λ r. ⌜ (kept r (now (out .exit)) ≡ outcome (leaf-scan (size (now (points .entry))) (keeping room (now (points .entry)) q r2) b (held count (now (out .entry))) (now (part .entry)))) × Few r (count + length (now (part .entry))) ⌝ }
+    count: &mut usize,
+) -> bool
+    requires { ⌜ Roomy room (now count) (length (now part)) (now out) ⌝ }
+    ensures { λ r. ⌜ (kept r (now (count .exit)) (now (out .exit)) ≡ outcome (leaf-scan (size (now (points .entry))) (keeping room (now (points .entry)) q r2) b (held (now (count .entry)) (now (out .entry))) (now (part .entry)))) × Few r (now (count .exit)) (now (count .entry) + length (now (part .entry))) ⌝ }
 {
     if distance::far_corner(q, b) <= r2 {
         return take_part(points.len() / 2, part, out, room, count);
@@ -109,51 +114,83 @@ fn leaf_part(
     scan_part(points, part, q, r2, out, room, count)
 }
 
-// The walk from a node over the entries from start to end, after count hits.
+// Whether a node lies past the radius.
+fn passes(boxes: &[f64], node: u32, x: f64, y: f64, r2: f64) -> bool
+    requires { ⌜ node * 6 + 6 ≤ length (now boxes) ⌝ }
+    ensures { λ r. ⌜ lt r2 (bound (place x y) (bounds (now (boxes .entry)) node)) ≡ r ⌝ }
+{
+    r2 < search::node_bound(boxes, node, Coord { x, y })
+}
+
+// From a sound node over start to end that is not past the radius, with the count of hits in a cell; false where damage is
+// met. A branch tests both its children before it visits either, and both their bounds: they are worked out side by side,
+// and a child past the radius costs no call. To lend slices on by `&*`, as nearest's walk does, gains nothing here.
 fn radius_search(
     points: &[f64],
     indices: &[u32],
     boxes: &[f64],
     links: &[u32],
-    q: Coord,
+    x: f64,
+    y: f64,
     r2: f64,
     node: u32,
     start: usize,
     end: usize,
     out: &mut [u32],
     room: usize,
-    count: usize,
-) -> Tally
-    requires { ⌜ Starts start end room count (now out) ⌝ }
-    ensures { λ r. ⌜ Walks (tree (now (points .entry)) (now (indices .entry)) (now (boxes .entry)) (now (links .entry))) (keeping room (now (points .entry)) q r2) node start end (held count (now (out .entry))) (kept r (now (out .exit))) × Few r (count + (end - start)) ⌝ }
+    count: &mut usize,
+) -> bool
+    requires { ⌜ Starts (now boxes) (now links) (place x y) r2 node start end room (now count) (now out) ⌝ }
+    ensures { λ r. ⌜ Walks (tree (now (points .entry)) (now (indices .entry)) (now (boxes .entry)) (now (links .entry))) (keeping room (now (points .entry)) (place x y) r2) node start end (held (now (count .entry)) (now (out .entry))) (kept r (now (count .exit)) (now (out .exit))) × Few r (now (count .exit)) (now (count .entry) + (end - start)) ⌝ }
 {
-    let k = tree::kind_at(boxes, links, node, start, end);
-    if let Kind::Damaged = k {
-        return Tally::Damaged;
-    }
-    let b = tree::bounds_at(boxes, node);
-    if r2 < distance::box_bound(q, b) {
-        return Tally::Count(count);
-    }
-    let Kind::Branch(left, right) = k else {
+    let Kind::Branch(left, right) = tree::kind_of(links, node) else {
         return leaf_part(
             points,
             tree::part_of(indices, start, end),
-            q,
+            Coord { x, y },
             r2,
-            b,
+            tree::bounds_of(boxes, node),
             out,
             room,
             count,
         );
     };
     let mid = start + (end - start) / 2;
-    let Tally::Count(n) = radius_search(
+    if !tree::sound_at(boxes, links, left, start, mid) {
+        return false;
+    }
+    if !tree::sound_at(boxes, links, right, mid, end) {
+        return false;
+    }
+    let past_left = passes(boxes, left, x, y, r2);
+    let past_right = passes(boxes, right, x, y, r2);
+    if past_left {
+        if past_right {
+            return true;
+        }
+        return radius_search(
+            points,
+            indices,
+            boxes,
+            links,
+            x,
+            y,
+            r2,
+            right,
+            mid,
+            end,
+            out,
+            room,
+            count,
+        );
+    }
+    if !radius_search(
         points,
         indices,
         boxes,
         links,
-        q,
+        x,
+        y,
         r2,
         left,
         start,
@@ -161,26 +198,73 @@ fn radius_search(
         out,
         room,
         count,
-    ) else {
-        return Tally::Damaged;
-    };
+    ) {
+        return false;
+    }
+    if past_right {
+        return true;
+    }
     radius_search(
         points,
         indices,
         boxes,
         links,
-        q,
+        x,
+        y,
         r2,
         right,
         mid,
         end,
         out,
         room,
-        n,
+        count,
     )
 }
 
-// The hits' indices: counted, refused where there is no room for them, stored, sorted.
+// The walk from node 0 over all n entries.
+fn radius_all(
+    points: &[f64],
+    indices: &[u32],
+    boxes: &[f64],
+    links: &[u32],
+    q: Coord,
+    r2: f64,
+    out: &mut [u32],
+    room: usize,
+    count: &mut usize,
+) -> bool
+    requires { ⌜ (0 < size (now points)) × Roomy room (now count) (size (now points)) (now out) ⌝ }
+    ensures { λ r. ⌜ (kept r (now (count .exit)) (now (out .exit)) ≡ outcome (walk-all (tree (now (points .entry)) (now (indices .entry)) (now (boxes .entry)) (now (links .entry))) (keeping room (now (points .entry)) q r2) (held (now (count .entry)) (now (out .entry))))) × Few r (now (count .exit)) (now (count .entry) + size (now (points .entry))) ⌝ }
+{
+    let n = points.len() / 2;
+    if indices.len() < n {
+        return false;
+    }
+    if !tree::sound_at(boxes, links, 0, 0, n) {
+        return false;
+    }
+    if passes(boxes, 0, q.x, q.y, r2) {
+        return true;
+    }
+    radius_search(
+        points,
+        indices,
+        boxes,
+        links,
+        q.x,
+        q.y,
+        r2,
+        0,
+        0,
+        n,
+        out,
+        room,
+        count,
+    )
+}
+
+// The hits' indices: counted, refused where there is no room for them, stored, sorted. The second walk has room for just as
+// many as the first met, so that nothing is put behind them. On damage every entry becomes 0.
 fn collect(
     points: &[f64],
     indices: &[u32],
@@ -194,50 +278,21 @@ fn collect(
     requires { ⌜ Collectable (now points) room (now out) ⌝ }
     ensures { λ r. ⌜ Answered (reply-of (outcome (walk-all (tree (now (points .entry)) (now (indices .entry)) (now (boxes .entry)) (now (links .entry))) (within (now (points .entry)) q r2) []))) room (now (out .entry)) r (now (out .exit)) ⌝ }
 {
-    let n = points.len() / 2;
-    if indices.len() < n {
+    let mut count: usize = 0;
+    if !radius_all(points, indices, boxes, links, q, r2, out, 0, &mut count) {
         search::clear(out);
         return Found::Refused(9, 0);
     }
-    let Tally::Count(count) = radius_search(
-        points,
-        indices,
-        boxes,
-        links,
-        q,
-        r2,
-        0,
-        0,
-        n,
-        out,
-        0,
-        0,
-    ) else {
-        search::clear(out);
-        return Found::Refused(9, 0);
-    };
     if count > room {
         return Found::Refused(8, count as u32);
     }
-    let Tally::Count(stored) = radius_search(
-        points,
-        indices,
-        boxes,
-        links,
-        q,
-        r2,
-        0,
-        0,
-        n,
-        out,
-        count,
-        0,
-    ) else {
+    let mut met: usize = 0;
+    if !radius_all(points, indices, boxes, links, q, r2, out, count, &mut met) {
         search::clear(out);
         return Found::Refused(9, 0);
-    };
-    rising::sort(out, stored);
-    Found::Hits(stored as u32)
+    }
+    rising::sort(out, met);
+    Found::Hits(met as u32)
 }
 
 // What both entries share: the refusals, and the indices in at most room entries of the slice.

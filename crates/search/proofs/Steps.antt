@@ -21,7 +21,7 @@ use Rattle.tree.specs.Node.{bounds, kind, mid, part}
 use Rattle.tree.specs.Accepted.{Tree, count}
 use Rattle.tree.specs.declared.Kind.{Kind}
 use Rattle.tree.specs.declared.Kind.the-variants.{Leaf, Branch, Damaged}
-use Rattle.search.specs.Walk.{Search, Walk, damage, done, more, and-then, scan, leaf-scan, visit, Got, broken, got, outcome, walk, Walks}
+use Rattle.search.specs.Walk.{Search, Walk, damage, done, more, and-then, scan, leaf-scan, visit, Got, broken, got, outcome, walk, walk-all, Walks}
 use Rattle.tree.proofs.ChildNumbers.{branch-size}
 
 pub outcome-more : {S : Type 0} (a b : ℕ) (w : Walk S) → outcome (more a b w) ≡ outcome w
@@ -119,6 +119,14 @@ module _ {S : Type 0} (t : Tree) (Q : Search S) (v a e : ℕ) (s : S) where
       right-then s' g y U (suc f) d =
           U f (omega (arith, size))
           ∙ sym (at-branch false h f ∙ then-found (walk t Q f r (mid a e) e s) (walk t Q f l a (mid a e)) s' (sym g ∙ W f (omega (arith, size))))
+
+-- ---- from node 0
+module _ {S : Type 0} (t : Tree) (Q : Search S) (s : S) where
+  pub no-indices : length (t .indices) < count t → broken ≡ outcome (walk-all t Q s)
+  no-indices h = rw (lt-ltb (length (t .indices)) (count t) h)
+
+  pub from-root : (g : Got S) → count t ≤ length (t .indices) → Walks t Q 0 0 (count t) s g → g ≡ outcome (walk-all t Q s)
+  from-root g h W = rw (le-ltb (length (t .indices)) (count t) h) (W (count t) (omega arith))
 
 -- ---- what the code worked out: the bound against a limit
 pub far-is : (q : Coord) (d : Float) (boxes : List Float) (v : ℕ) (b : Bounds) (w : Float) (z : Bool) → b ≡ bounds boxes v → w ≡ bound q b → lt d w ≡ z → lt d (bound q (bounds boxes v)) ≡ z

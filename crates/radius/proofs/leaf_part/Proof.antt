@@ -21,10 +21,15 @@ same-length c = search needs
 
 returns : tie.Need-returns
 returns c =
-    let a = c .before .before .before .before .before .before .before .before .before .args in
+    let t = c .before .before .before .before .before in
+    let f = t .before in
+    let a = f .before .before .before .before .args in
     let ps = now (a .points) in
     let r = c .before .before .take-part .ensures in (
-      r .0 ∙ sym (ap (λ (w : Walk Held). outcome w) (leaf-is (size ps) (keeping (a .room) ps (a .q) (a .r2)) (a .b) (held (a .count) (now (a .out))) (now (a .part)) true (whole-is (a .q) (a .b) (a .r2) (c .before .before .before .before .before .far-corner .result) true (c .before .before .before .before .before .far-corner .ensures) (c .before .before .before .before .if1 .taken)))),
+      r .0
+          ∙ sym (ap (λ (w : Walk Held). outcome w)
+          (leaf-is (size ps) (keeping (a .room) ps (a .q) (a .r2)) (a .b) (held (now (a .count)) (now (a .out))) (now (a .part)) true
+          (whole-is (a .q) (a .b) (a .r2) (f .far-corner .result) true (f .far-corner .ensures) (t .if1 .taken)))),
       r .1,
     )
 
@@ -36,10 +41,15 @@ same-length-2 c = search needs
 
 returns-2 : tie.Need-returns-2
 returns-2 c =
-    let a = c .before .before .before .before .before .before .before .before .before .args in
+    let t = c .before .before .before .before .before in
+    let f = t .before in
+    let a = f .before .before .before .before .args in
     let ps = now (a .points) in
     let r = c .before .before .scan-part .ensures in (
-      r .0 ∙ sym (ap (λ (w : Walk Held). outcome w) (leaf-is (size ps) (keeping (a .room) ps (a .q) (a .r2)) (a .b) (held (a .count) (now (a .out))) (now (a .part)) false (whole-is (a .q) (a .b) (a .r2) (c .before .before .before .before .before .far-corner .result) false (c .before .before .before .before .before .far-corner .ensures) (c .before .before .before .before .if1 .left)))),
+      r .0
+          ∙ sym (ap (λ (w : Walk Held). outcome w)
+          (leaf-is (size ps) (keeping (a .room) ps (a .q) (a .r2)) (a .b) (held (now (a .count)) (now (a .out))) (now (a .part)) false
+          (whole-is (a .q) (a .b) (a .r2) (f .far-corner .result) false (f .far-corner .ensures) (t .if1 .left)))),
       r .1,
     )
 

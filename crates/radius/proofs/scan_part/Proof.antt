@@ -39,7 +39,7 @@ same-length c = search needs
 
 returns : tie.Need-returns Inv-loop μ-loop
 returns c =
-    let a = c .before .before .before .before .before .before .before .args in
+    let a = c .before .before .before .before .before .before .before .before .args in
     let l = c .before .before .before .loop in
     let ps = now (a .points) in
     (sym (l .inv .3 ∙ scan-out (size ps) (keeping (a .room) ps (a .q) (a .r2) .next) 1 (held (l .n) (l .out)) (now (a .part)) (l .k) (c .before .before .loop-test .taken) (c .if1 .taken)), tt)
@@ -71,7 +71,7 @@ coord-distance-sq-requires c κs = search needs
 keep-requires : tie.Need-keep-requires Inv-loop μ-loop
 keep-requires c κs =
     let l = c .before .before .before .before .before .before .before .loop in
-    let p = c .before .before .before .before .before .before .before .before .before .before .before .pre in
+    let p = c .before .before .before .before .before .before .before .before .before .before .before .before .pre in
     record { inside = omega (arith, l .inv .2, p .inside); small = omega (arith, l .inv .1, c .before .before .before .before .before .before .loop-test .taken, p .small) }
 
 add-k : tie.Need-add-k Inv-loop μ-loop
@@ -82,7 +82,7 @@ loop-less c = search needs
 
 loop-again : tie.Need-loop-again Inv-loop μ-loop
 loop-again c =
-    let a = c .before .before .before .before .before .before .before .before .before .before .before .before .before .before .args in
+    let a = c .before .before .before .before .before .before .before .before .before .before .before .before .before .before .before .args in
     let l = c .before .before .before .before .before .before .before .before .before .before .loop in
     let ps = now (a .points) in
     let is = now (a .part) in
@@ -103,7 +103,7 @@ same-length-2 c = search needs
 
 returns-2 : tie.Need-returns-2 Inv-loop μ-loop
 returns-2 c =
-    let a = c .before .before .before .before .before .args in
+    let a = c .before .before .before .before .before .before .args in
     let l = c .before .loop in
     let ps = now (a .points) in
     (sym (l .inv .3 ∙ scan-end (size ps) (keeping (a .room) ps (a .q) (a .r2) .next) 1 (held (l .n) (l .out)) (now (a .part)) (l .k) (c .loop-test .left)), omega (arith, l .inv .0, l .inv .1))

@@ -37,14 +37,14 @@ same-length c = search needs
 
 returns : tie.Need-returns Inv-loop μ-loop
 returns c =
-    let a = c .before .before .before .before .before .before .args in
+    let a = c .before .before .before .before .before .before .before .args in
     let l = c .before .before .before .loop in
     (sym (l .inv .3 ∙ scan-out (a .size) (keep (a .room) true) 0 (held (l .n) (l .out)) (now (a .part)) (l .k) (c .before .before .loop-test .taken) (c .if1 .taken)), tt)
 
 keep-requires : tie.Need-keep-requires Inv-loop μ-loop
 keep-requires c κs =
     let l = c .before .before .before .before .loop in
-    let p = c .before .before .before .before .before .before .before .pre in
+    let p = c .before .before .before .before .before .before .before .before .pre in
     record { inside = omega (arith, l .inv .2, p .inside); small = omega (arith, l .inv .1, c .before .before .before .loop-test .taken, p .small) }
 
 add-k : tie.Need-add-k Inv-loop μ-loop
@@ -55,7 +55,7 @@ loop-less c = search needs
 
 loop-again : tie.Need-loop-again Inv-loop μ-loop
 loop-again c =
-    let a = c .before .before .before .before .before .before .before .before .before .before .args in
+    let a = c .before .before .before .before .before .before .before .before .before .before .before .args in
     let l = c .before .before .before .before .before .before .before .loop in
     let is = now (a .part) in
     let k = c .before .before .keep in (
@@ -72,7 +72,7 @@ same-length-2 c = search needs
 
 returns-2 : tie.Need-returns-2 Inv-loop μ-loop
 returns-2 c =
-    let a = c .before .before .before .before .args in
+    let a = c .before .before .before .before .before .args in
     let l = c .before .loop in
     (sym (l .inv .3 ∙ scan-end (a .size) (keep (a .room) true) 0 (held (l .n) (l .out)) (now (a .part)) (l .k) (c .loop-test .left)), omega (arith, l .inv .0, l .inv .1))
 
