@@ -80,11 +80,3 @@ celled-held b n h = rw h
 
 pub celled-damaged : (b : Bool) (n : ℕ) → b ≡ false → celled b n ≡ Damaged
 celled-damaged b n h = rw h
-
--- ---- from node 0
-module _ {S : Type 0} (t : Tree) (Q : Search S) (s : S) where
-  pub no-indices : length (t .indices) < count t → broken ≡ outcome (walk-all t Q s)
-  no-indices h = rw (lt-ltb (length (t .indices)) (count t) h)
-
-  pub from-root : (g : Got S) → count t ≤ length (t .indices) → Walks t Q 0 0 (count t) s g → g ≡ outcome (walk-all t Q s)
-  from-root g h W = rw (le-ltb (length (t .indices)) (count t) h) (W (count t) (omega arith))

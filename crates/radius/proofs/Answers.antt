@@ -17,7 +17,8 @@ use Rattle.distance.specs.Distance.{sq}
 use Rattle.distance.specs.declared.Coord.{Coord}
 use Rattle.tree.specs.Points.{limit, size}
 use Rattle.tree.specs.Accepted.{Tree, count}
-use Rattle.rising.proofs.Sorting.{All, insert-all}
+use Rattle.tree.proofs.Each.{Each, each-at}
+use Rattle.rising.proofs.Sorting.{insert-all}
 use Rattle.search.specs.Walk.{Walk, damage, done, Got, broken, got, outcome, walk, walk-all}
 use Rattle.search.specs.Order.{point}
 use Rattle.search.specs.Refusal.{refusal, Told}
@@ -128,7 +129,7 @@ answered-none a room is e = rw e (record { told-is = go (ltb room 0) refl; hits-
 
 -- ---- over any tree a hit is a point
 abbrev pub Below : ℕ → List ℕ → Type 0
-Below n l = All (λ i. i < n) l
+Below n l = Each (λ i. i < n) l
 
 pub within-below : (t : Tree) (q : Coord) (r2 : Float) → 0 < count t → After (Below (count t)) (walk-all t (within (t .points) q r2) [])
 within-below t q r2 some = go (ltb (length (t .indices)) (count t)) refl
@@ -192,11 +193,6 @@ module _ (points : List Float) (q : Coord) (a : Reply) (P : Proper a) (room : �
           pick true h e i = absurd (omega arith)
           pick false h e i = subst (λ (z : List ℕ). RootsInFront (squares points q z) ds₀ ds) (ap (take n) i ∙ take-at l (drop (length l) is₀) n (sym e)) R
 
-all-at : (P : ℕ → Type 0) (l : List ℕ) → All P l → (k : ℕ) → k < length l → P (getD l k 0)
-all-at P [] h k m = absurd (not-suc-le-zero m)
-all-at P (x ∷ xs) h zero m = h .0
-all-at P (x ∷ xs) (h) (suc k) m = all-at P xs (h .1) k (le-of-suc-le-suc m)
-
 -- the hits that were found can be measured
 pub measurable : (t : Tree) (q : Coord) (radius : Float) (room n : ℕ) (is₀ is : List ℕ) (ds : List Float) → room ≤ length is₀ → room ≤ length ds → length is ≡ length is₀
     → Answered (reply t q radius) room is₀ (Hits n) is → Measurable (t .points) is n ds
@@ -214,7 +210,7 @@ measurable t q radius room n is₀ is ds h k s A = go (reply t q radius) (reply-
             record {
               counted = omega arith;
               inside = omega arith;
-              below = λ j m. subst (λ (x : ℕ). x < count t) (sym (ap (λ (x : List ℕ). getD x j 0) i ∙ List·getD-append l (drop (length l) is₀) 0 j (omega arith))) (all-at (λ i. i < count t) l (B l refl) j (omega arith));
+              below = λ j m. subst (λ (x : ℕ). x < count t) (sym (ap (λ (x : List ℕ). getD x j 0) i ∙ List·getD-append l (drop (length l) is₀) 0 j (omega arith))) (each-at (λ i. i < count t) l (B l refl) j 0 (omega arith));
             }
 
 -- ---- both slices, by what the answer r is

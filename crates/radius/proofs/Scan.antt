@@ -21,29 +21,22 @@ use Rattle.distance.proofs.Corner.{corner-within}
 use Rattle.tree.specs.Points.{x, y}
 use Rattle.tree.specs.Accepted.{Tree, count, Grown, Accepted, times}
 use Rattle.rising.specs.Sort.{insert}
-use Rattle.rising.proofs.Sorting.{All, Rises, insert-rises}
+use Rattle.tree.proofs.Each.{Each, each-map, each-append}
+use Rattle.tree.proofs.Rising.{number}
+use Rattle.rising.proofs.Sorting.{insert-is, insert-rises}
 use Rattle.search.specs.Walk.{Walk, done, got, outcome, walk-all, plain}
 use Rattle.search.specs.Order.{point}
 use Rattle.search.specs.Refusal.{refusal, Told, told}
 use Rattle.search.specs.declared.Found.{Found}
 use Rattle.search.proofs.Unrefused.{refusal-finite}
-use Rattle.tree.proofs.Insert.{ins, ins-comm}
+use Rattle.tree.proofs.Insert.{ins, ins-comm, Sorted}
 use Rattle.search.proofs.Rank.{no-nan, point-good, far-point}
 use Rattle.search.proofs.Whole.{Fair, Ends, walk-is-plain}
 use Rattle.radius.specs.Within.{within, Reply, refuses, damaged, finds, reply-of, reply, says, Answered}
 use Rattle.radius.proofs.Answers.{Proper, reply-proper, reply-refused, reply-five, reply-none, reply-walk}
 
 -- ---- insertion by index, in either order
-number : ℕ → ℕ
-number i = i
-
-insert-is : (i : ℕ) (l : List ℕ) → insert i l ≡ ins number i l
-unfolding number
-insert-is i [] = refl
-insert-is i (j ∷ js) = ap (λ (z : List ℕ). cond (ltb i j) (i ∷ j ∷ js) (j ∷ z)) (insert-is i js)
-
 insert-comm : (i j : ℕ) (l : List ℕ) → insert i (insert j l) ≡ insert j (insert i l)
-unfolding number
 insert-comm i j l =
     ap (insert i) (insert-is j l) ∙ insert-is i (ins number j l) ∙ ins-comm number i j l (λ (e : i ≡ j). e)
     ∙ sym (ap (insert j) (insert-is i l) ∙ insert-is j (ins number i l))
@@ -86,24 +79,16 @@ abbrev pub picked : (ℕ → Bool) → ℕ → List ℕ
 picked p zero = []
 picked p (suc i) = cond (p i) (picked p i ++ (i ∷ [])) (picked p i)
 
-insert-last : (i : ℕ) (l : List ℕ) → All (λ j. j < i) l → insert i l ≡ l ++ (i ∷ [])
+insert-last : (i : ℕ) (l : List ℕ) → Each (λ j. j < i) l → insert i l ≡ l ++ (i ∷ [])
 insert-last i [] h = refl
 insert-last i (j ∷ js) h = ap (λ (b : Bool). cond b (i ∷ j ∷ js) (j ∷ insert i js)) (le-ltb i j (omega (arith, h .0))) ∙ ap (λ (z : List ℕ). j ∷ z) (insert-last i js (h .1))
 
-all-more : (n : ℕ) (l : List ℕ) → All (λ j. j < n) l → All (λ j. j < suc n) l
-all-more n [] h = tt
-all-more n (j ∷ js) h = (omega (arith, h .0), all-more n js (h .1))
-
-all-append : (P : ℕ → Type 0) (l m : List ℕ) → All P l → All P m → All P (l ++ m)
-all-append P [] m h k = k
-all-append P (j ∷ js) m h k = (h .0, all-append P js m (h .1) k)
-
-pub picked-below : (p : ℕ → Bool) (n : ℕ) → All (λ j. j < n) (picked p n)
+pub picked-below : (p : ℕ → Bool) (n : ℕ) → Each (λ j. j < n) (picked p n)
 picked-below p zero = tt
-picked-below p (suc n) = go (p n) (all-more n (picked p n) (picked-below p n))
+picked-below p (suc n) = go (p n) (each-map (picked p n) (λ j h. omega arith) (picked-below p n))
   where
-    go : (b : Bool) → All (λ j. j < suc n) (picked p n) → All (λ j. j < suc n) (cond b (picked p n ++ (n ∷ [])) (picked p n))
-    go true h = all-append (λ j. j < suc n) (picked p n) (n ∷ []) h (omega arith, tt)
+    go : (b : Bool) → Each (λ j. j < suc n) (picked p n) → Each (λ j. j < suc n) (cond b (picked p n ++ (n ∷ [])) (picked p n))
+    go true h = each-append (λ j. j < suc n) (picked p n) (n ∷ []) h (omega arith, tt)
     go false h = h
 
 pub plain-picks : (points : List Float) (q : Coord) (r2 : Float) (n : ℕ) → plain (within points q r2 .next) [] n ≡ picked (λ i. le (point points q i .d2) r2) n
@@ -151,12 +136,12 @@ picked-times p (suc n) v = go (eqb v n) refl (picked-times p n v)
         own (p n) (ih ∙ ap (λ (b : Bool). cond {A = ℕ} b (cond (p v) 1 0) 0) (le-ltb v n (omega arith))) e ∙ ap (λ (k : ℕ). cond (p k) 1 0) (sym f) ∙ sym (ap (λ (b : Bool). cond {A = ℕ} b (cond (p v) 1 0) 0) (lt-ltb v (suc n) (omega arith)))
     go false e ih = other (p n) e ∙ ih ∙ ap (λ (b : Bool). cond {A = ℕ} b (cond (p v) 1 0) 0) (further e)
 
-pub picked-rises : (p : ℕ → Bool) (n : ℕ) → Rises (picked p n)
+pub picked-rises : (p : ℕ → Bool) (n : ℕ) → Sorted number (picked p n)
 picked-rises p zero = tt
 picked-rises p (suc n) = go (p n) (picked-rises p n)
   where
-    go : (b : Bool) → Rises (picked p n) → Rises (cond b (picked p n ++ (n ∷ [])) (picked p n))
-    go true h = subst Rises (insert-last n (picked p n) (picked-below p n)) (insert-rises n (picked p n) h)
+    go : (b : Bool) → Sorted number (picked p n) → Sorted number (cond b (picked p n ++ (n ∷ [])) (picked p n))
+    go true h = subst (λ (l : List ℕ). Sorted number l) (insert-last n (picked p n) (picked-below p n)) (insert-rises n (picked p n) h)
     go false h = h
 
 -- ---- a radius that is at least 0 has a square that is no NaN

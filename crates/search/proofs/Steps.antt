@@ -127,7 +127,3 @@ module _ {S : Type 0} (t : Tree) (Q : Search S) (s : S) where
 
   pub from-root : (g : Got S) → count t ≤ length (t .indices) → Walks t Q 0 0 (count t) s g → g ≡ outcome (walk-all t Q s)
   from-root g h W = rw (le-ltb (length (t .indices)) (count t) h) (W (count t) (omega arith))
-
--- ---- what the code worked out: the bound against a limit
-pub far-is : (q : Coord) (d : Float) (boxes : List Float) (v : ℕ) (b : Bounds) (w : Float) (z : Bool) → b ≡ bounds boxes v → w ≡ bound q b → lt d w ≡ z → lt d (bound q (bounds boxes v)) ≡ z
-far-is q d boxes v b w z e f h = ap (λ (c : Bounds). lt d (bound q c)) (sym e) ∙ ap (λ (x : Float). lt d x) (sym f) ∙ h

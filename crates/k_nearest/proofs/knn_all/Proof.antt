@@ -6,9 +6,9 @@ use borrow.Author.Needs.{needs}
 use borrow.Author.Tests.{not-true, not-false}
 use Rattle.tree.specs.Accepted.{tree, count}
 use Rattle.tree.proofs.Sound.{unsound}
-use Rattle.search.proofs.Steps.{at-damaged}
+use Rattle.search.proofs.Steps.{at-damaged, no-indices, from-root}
 use Rattle.k_nearest.specs.Query.{holding}
-use Rattle.k_nearest.proofs.Heaps.{walked-damaged, walked-held, grew-held, grew-damaged, celled-held, celled-damaged, from-root, no-indices}
+use Rattle.k_nearest.proofs.Heaps.{walked-damaged, walked-held, grew-held, grew-damaged, celled-held, celled-damaged}
 use Rattle.k_nearest.proofs.knn_all.Statement.{statement}
 use Rattle.k_nearest.proofs.knn_all.Tie as tie
 

@@ -3,7 +3,7 @@ use denote.Ref.{now}
 use borrow.Author.Needs.{needs}
 use Rattle.tree.specs.Accepted.{tree}
 use Rattle.k_nearest.specs.Query.{probing}
-use Rattle.k_nearest.proofs.Heaps.{from-root, no-indices}
+use Rattle.search.proofs.Steps.{from-root, no-indices}
 use Rattle.k_nearest.proofs.probe_all.Statement.{statement}
 use Rattle.k_nearest.proofs.probe_all.Tie as tie
 
