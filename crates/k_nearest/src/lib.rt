@@ -99,6 +99,10 @@ fn knn_search(
     requires { ⌜ (start < end) × (sound (kind (now boxes) (now links) node start end) ≡ true) × Room k (now held) (now near) (now d2s) ⌝ }
     ensures { λ r. ⌜ Walks (tree (now (points .entry)) (now (indices .entry)) (now (boxes .entry)) (now (links .entry))) (holding k (now (points .entry)) (place x y)) node start end (heap-of (now (held .entry)) (now (near .entry)) (now (d2s .entry))) (walked (celled r (now (held .exit))) (now (near .exit)) (now (d2s .exit))) × Grew k (now (held .entry)) (now (near .entry)) (now (d2s .entry)) (celled r (now (held .exit))) (now (near .exit)) (now (d2s .exit)) ⌝ }
 {
+    let points = &*points;
+    let indices = &*indices;
+    let boxes = &*boxes;
+    let links = &*links;
     let q = Coord { x, y };
     if passes(boxes, node, q, d2s, *held, k) {
         return true;
@@ -124,10 +128,10 @@ fn knn_search(
     let first = search::ordered_children(boxes, left, right, q);
     let t = search::in_turn(first, left, right, start, mid, end);
     if !knn_search(
-        &*points,
-        &*indices,
-        &*boxes,
-        &*links,
+        points,
+        indices,
+        boxes,
+        links,
         x,
         y,
         k,
@@ -144,10 +148,10 @@ fn knn_search(
         return true;
     }
     knn_search(
-        &*points,
-        &*indices,
-        &*boxes,
-        &*links,
+        points,
+        indices,
+        boxes,
+        links,
         x,
         y,
         k,

@@ -5,9 +5,12 @@ use distance::Coord;
 use tree::Kind;
 ghost use mathlib.Core.Path.{_≡_};
 ghost use mathlib.Core.Bool.{true};
-ghost use Prim.Native.Nat.{_<_};
+ghost use Prim.Native.Nat.{_+_, _*_, _<_, _≤_};
+ghost use lib.ListN.{length};
+ghost use lib.Ieee.{lt};
+ghost use Rattle.distance.specs.Distance.{bound};
 ghost use Rattle.tree.specs.Points.{size};
-ghost use Rattle.tree.specs.Node.{kind};
+ghost use Rattle.tree.specs.Node.{bounds, kind};
 ghost use Rattle.tree.specs.Inner.{sound};
 ghost use Rattle.tree.specs.Accepted.{tree};
 ghost use Rattle.search.specs.Walk.{scan, outcome, Walks};
@@ -63,9 +66,20 @@ fn scan_leaf(points: &[f64], part: &[u32], q: Coord, d2: &mut f64, index: &mut u
     true
 }
 
+// Whether a node lies farther than the best so far. While none is found, that is at infinity, and no bound is worked out.
+fn passes(boxes: &[f64], node: u32, q: Coord, d2: f64) -> bool
+    requires { ⌜ node * 6 + 6 ≤ length (now boxes) ⌝ }
+    ensures { λ r. ⌜ r ≡ lt d2 (bound q (bounds (now (boxes .entry)) node)) ⌝ }
+{
+    if d2 < 1.0 / 0.0 {
+        return d2 < search::node_bound(boxes, node, q);
+    }
+    false
+}
+
 // From a sound node over start to end, with the best so far in two cells; false where damage is met. A branch tests both
 // its children before it visits either, and the farther one again by its bound, so that most of those cost no call.
-// Slices are lent on by `&*`, and the place by its numbers: so the compiler passes pointer and length each as they were
+// Slices are lent anew by `&*`, and the place is two numbers: so the compiler takes pointer and length each as they were
 // stored. Copied in one, they wait for both stores, and thus for the whole question before (a seventh of the time).
 fn nn_search(
     points: &[f64],
@@ -83,8 +97,12 @@ fn nn_search(
     requires { ⌜ (start < end) × (sound (kind (now boxes) (now links) node start end) ≡ true) ⌝ }
     ensures { λ r. ⌜ Walks (tree (now (points .entry)) (now (indices .entry)) (now (boxes .entry)) (now (links .entry))) (nearest (now (points .entry)) (at x y)) node start end (best (now (d2 .entry)) (now (index .entry))) (celled r (best (now (d2 .exit)) (now (index .exit)))) ⌝ }
 {
+    let points = &*points;
+    let indices = &*indices;
+    let boxes = &*boxes;
+    let links = &*links;
     let q = Coord { x, y };
-    if *d2 < search::node_bound(boxes, node, q) {
+    if passes(boxes, node, q, *d2) {
         return true;
     }
     let Kind::Branch(left, right) = tree::kind_of(links, node) else {
@@ -100,10 +118,10 @@ fn nn_search(
     let first = search::ordered_children(boxes, left, right, q);
     let t = search::in_turn(first, left, right, start, mid, end);
     if !nn_search(
-        &*points,
-        &*indices,
-        &*boxes,
-        &*links,
+        points,
+        indices,
+        boxes,
+        links,
         x,
         y,
         t.near,
@@ -114,14 +132,14 @@ fn nn_search(
     ) {
         return false;
     }
-    if *d2 < search::node_bound(boxes, t.far, q) {
+    if passes(boxes, t.far, q, *d2) {
         return true;
     }
     nn_search(
-        &*points,
-        &*indices,
-        &*boxes,
-        &*links,
+        points,
+        indices,
+        boxes,
+        links,
         x,
         y,
         t.far,

@@ -124,7 +124,7 @@ fn passes(boxes: &[f64], node: u32, x: f64, y: f64, r2: f64) -> bool
 
 // From a sound node over start to end that is not past the radius, with the count of hits in a cell; false where damage is
 // met. A branch tests both its children before it visits either, and both their bounds: they are worked out side by side,
-// and a child past the radius costs no call. To lend slices on by `&*`, as nearest's walk does, gains nothing here.
+// and a child past the radius costs no call. Slices and the place are handed on as in nearest's walk.
 fn radius_search(
     points: &[f64],
     indices: &[u32],
@@ -143,6 +143,10 @@ fn radius_search(
     requires { ⌜ Starts (now boxes) (now links) (place x y) r2 node start end room (now count) (now out) ⌝ }
     ensures { λ r. ⌜ Walks (tree (now (points .entry)) (now (indices .entry)) (now (boxes .entry)) (now (links .entry))) (keeping room (now (points .entry)) (place x y) r2) node start end (held (now (count .entry)) (now (out .entry))) (kept r (now (count .exit)) (now (out .exit))) × Few r (now (count .exit)) (now (count .entry) + (end - start)) ⌝ }
 {
+    let points = &*points;
+    let indices = &*indices;
+    let boxes = &*boxes;
+    let links = &*links;
     let Kind::Branch(left, right) = tree::kind_of(links, node) else {
         return leaf_part(
             points,

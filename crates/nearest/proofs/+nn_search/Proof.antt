@@ -22,9 +22,9 @@ use borrow.Fn.PlainCycle.{Measures, is, falls, and}
 use Rattle.nearest.proofs.nn_search.Reads as nn-search
 use Rattle.nearest.proofs.nn_search.Kinds as nn-search-kinds
 use Rattle.nearest.proofs.+nn_search.Lts-nn_search as nn-search-lts
+use Rattle.nearest.proofs.passes.Reads as passes-reads
 use Rattle.nearest.proofs.scan_leaf.Reads as scan-leaf-reads
 use Rattle.search.proofs.in_turn.Reads as in-turn-reads
-use Rattle.search.proofs.node_bound.Reads as node-bound-reads
 use Rattle.search.proofs.ordered_children.Reads as ordered-children-reads
 use Rattle.tree.proofs.kind_of.Reads as kind-of-reads
 use Rattle.tree.proofs.part_of.Reads as part-of-reads
@@ -43,10 +43,10 @@ nn-search-below t =
     and 6 nn-search-kinds.ps (falls 6 nn-search-kinds.ps _<_ μ-nn-search t) nn-search.Pre
 
 abbrev rs : ℕ → nn-search-lts.Claims
-rs t = (node-bound-reads.Asked, node-bound-reads.Learnt, kind-of-reads.Asked, kind-of-reads.Learnt, part-of-reads.Asked, part-of-reads.Learnt, scan-leaf-reads.Asked, scan-leaf-reads.Learnt, sound-at-reads.Asked, sound-at-reads.Learnt, ordered-children-reads.Asked, ordered-children-reads.Learnt, in-turn-reads.Asked, in-turn-reads.Learnt, nn-search-below t, nn-search.Post)
+rs t = (passes-reads.Asked, passes-reads.Learnt, kind-of-reads.Asked, kind-of-reads.Learnt, part-of-reads.Asked, part-of-reads.Learnt, scan-leaf-reads.Asked, scan-leaf-reads.Learnt, sound-at-reads.Asked, sound-at-reads.Learnt, ordered-children-reads.Asked, ordered-children-reads.Learnt, in-turn-reads.Asked, in-turn-reads.Learnt, nn-search-below t, nn-search.Post)
 
-nn-search-node-bound-requires : (t : ℕ) → nn-search-lts.Need-node-bound-requires (rs t) (nn-search-at t) nn-search.Post
-nn-search-node-bound-requires t c κs =
+nn-search-passes-requires : (t : ℕ) → nn-search-lts.Need-passes-requires (rs t) (nn-search-at t) nn-search.Post
+nn-search-passes-requires t c κs =
     let st = c .before .before .before .before in
     let a = st .args in
     sound-boxes (now (a .boxes)) (now (a .links)) (a .node) (a .start) (a .end) (st .pre .1 .1)
@@ -59,7 +59,7 @@ nn-search-returns t c =
     let Q = nearest (now (a .points)) (at (a .x) (a .y)) in
     let s = best (now (a .d2)) (now (a .index)) in
     sound-skip T Q (a .node) (a .start) (a .end) s (st .pre .1 .1) (st .pre .1 .0)
-    (ap (λ (x : Float). lt (s .d2) x) (sym (c .before .node-bound .ensures)) ∙ c .if1 .taken)
+    (sym (c .before .passes .ensures) ∙ c .if1 .taken)
 
 nn-search-kind-of-requires : (t : ℕ) → nn-search-lts.Need-kind-of-requires (rs t) (nn-search-at t) nn-search.Post
 nn-search-kind-of-requires t c κs =
@@ -87,7 +87,7 @@ nn-search-returns-2 t c =
     let Q = nearest (now (a .points)) (at (a .x) (a .y)) in
     let s = best (now (a .d2)) (now (a .index)) in
     sound-leaf T Q (a .node) (a .start) (a .end) s (st .pre .1 .1) (st .pre .1 .0) (k .kind-of .result) (k .kind-of .ensures) (m .match .keys2)
-    (ap (λ (x : Float). lt (s .d2) x) (sym (n .node-bound .ensures)) ∙ k .before .if1 .left) _
+    (sym (n .passes .ensures) ∙ k .before .if1 .left) _
     (c .scan-leaf .ensures ∙ ap (λ (l : List ℕ). outcome (scan (size (now (a .points))) (Q .next) 1 s l)) (c .before .before .before .part-of .ensures))
 
 nn-search-sub-mid : (t : ℕ) → nn-search-lts.Need-sub-mid (rs t) (nn-search-at t) nn-search.Post
@@ -111,7 +111,7 @@ nn-search-returns-3 t c =
     let s = best (now (a .d2)) (now (a .index)) in
     left-broken T Q (a .node) (a .start) (a .end) s _ _
     (sound-known (now (a .boxes)) (now (a .links)) (a .node) (a .start) (a .end) (st .pre .1 .1) ∙ sym (k .kind-of .ensures) ∙ m .left .given .1)
-    (ap (λ (x : Float). lt (s .d2) x) (sym (n .node-bound .ensures)) ∙ k .before .if1 .left)
+    (sym (n .passes .ensures) ∙ k .before .if1 .left)
     (unsound _ (sym (c .before .sound-at .ensures) ∙ not-true (c .before .sound-at .result) (c .if2 .taken)))
 
 nn-search-sound-at-requires-2 : (t : ℕ) → nn-search-lts.Need-sound-at-requires-2 (rs t) (nn-search-at t) nn-search.Post
@@ -129,7 +129,7 @@ nn-search-returns-4 t c =
     let s = best (now (a .d2)) (now (a .index)) in
     right-broken T Q (a .node) (a .start) (a .end) s _ _
     (sound-known (now (a .boxes)) (now (a .links)) (a .node) (a .start) (a .end) (st .pre .1 .1) ∙ sym (k .kind-of .ensures) ∙ m .left .given .1)
-    (ap (λ (x : Float). lt (s .d2) x) (sym (n .node-bound .ensures)) ∙ k .before .if1 .left)
+    (sym (n .passes .ensures) ∙ k .before .if1 .left)
     (unsound _ (sym (c .before .sound-at2 .ensures) ∙ not-true (c .before .sound-at2 .result) (c .if3 .taken)))
 
 nn-search-ordered-children-requires : (t : ℕ) → nn-search-lts.Need-ordered-children-requires (rs t) (nn-search-at t) nn-search.Post
@@ -160,7 +160,7 @@ branched t c =
       r = _;
       first = o .ordered-children .result;
       branch = sound-known (now (a .boxes)) (now (a .links)) (a .node) (a .start) (a .end) (st .pre .1 .1) ∙ sym (k .kind-of .ensures) ∙ m .left .given .1;
-      entered = ap (λ (x : Float). lt (now (a .d2)) x) (sym (n .node-bound .ensures)) ∙ k .before .if1 .left;
+      entered = sym (n .passes .ensures) ∙ k .before .if1 .left;
       ordered = o .ordered-children .ensures;
       turned = c .in-turn .ensures;
       left-sound = sym (j .sound-at .ensures) ∙ not-false (j .sound-at .result) (i .before .if2 .left);
@@ -178,8 +178,8 @@ nn-search-returns-5 : (t : ℕ) → nn-search-lts.Need-returns-5 (rs t) (nn-sear
 nn-search-returns-5 t c =
     near-damaged (branched t (c .before .before .before .before)) _ (c .before .nn-search .ensures) (celled-false _ _ (not-true (c .before .nn-search .result) (c .if4 .taken)))
 
-nn-search-node-bound-requires-2 : (t : ℕ) → nn-search-lts.Need-node-bound-requires-2 (rs t) (nn-search-at t) nn-search.Post
-nn-search-node-bound-requires-2 t c κs =
+nn-search-passes-requires-2 : (t : ℕ) → nn-search-lts.Need-passes-requires-2 (rs t) (nn-search-at t) nn-search.Post
+nn-search-passes-requires-2 t c κs =
     let o = c .before .before .before .before in
     let a = o .before .before .before .before .before .before .before .before .before .before .before .before .before .before .before .before .args in
     let T = o .in-turn .result in
@@ -189,7 +189,7 @@ nn-search-returns-6 : (t : ℕ) → nn-search-lts.Need-returns-6 (rs t) (nn-sear
 nn-search-returns-6 t c =
     let w = c .before .before .before in
     near-skip (branched t (w .before .before .before)) _ (w .nn-search .ensures) _ (celled-true _ _ (not-false (w .nn-search .result) (c .before .before .if4 .left)))
-    (rw (sym (c .before .node-bound2 .ensures)) (c .if5 .taken))
+    (sym (c .before .passes2 .ensures) ∙ c .if5 .taken)
 
 nn-search-nn-search-requires-2 : (t : ℕ) → nn-search-lts.Need-nn-search-requires-2 (rs t) (nn-search-at t) nn-search.Post
 nn-search-nn-search-requires-2 t c κs =
@@ -207,7 +207,7 @@ pub +nn-search-spec : {M : Type 1} → statement M
 +nn-search-spec = close μ-nn-search λ t. nn-search-lts.spec (rs t)
     (nn-search-at t)
     nn-search.Post
-    (nn-search-node-bound-requires t)
+    (nn-search-passes-requires t)
     (nn-search-returns t)
     (nn-search-kind-of-requires t)
     (nn-search-enum-known-left t)
@@ -224,7 +224,7 @@ pub +nn-search-spec : {M : Type 1} → statement M
     (nn-search-in-turn-requires t)
     (nn-search-nn-search-requires t)
     (nn-search-returns-5 t)
-    (nn-search-node-bound-requires-2 t)
+    (nn-search-passes-requires-2 t)
     (nn-search-returns-6 t)
     (nn-search-nn-search-requires-2 t)
     (nn-search-returns-7 t)
