@@ -2,10 +2,11 @@
  *
  *   bench [quick] [labels-command ..]
  *
- * Each time is CPU time of the process, the best of several turns; in a turn the three run one after the other, so that a
- * busy machine is busy for all of them, and a ratio is the middle one of the turns' ratios. The three are compiled for plain x86-64. Their answers are added up and held
- * against each other, so that none is optimised away or wrong unseen. A labels-command is run as `COMMAND FILE EPSILON
- * MIN_SAMPLES` over a file of points (x, y as doubles) and prints its CPU seconds and the number of labelled points.
+ * Each time is CPU time of the process, the best of several turns; in a turn the three run one after the other, another one
+ * first in each, so that a busy machine is busy for all of them, and a ratio is the middle one of the turns' ratios. The three
+ * are compiled for plain x86-64. Their answers are added up and held against each other, so that none is optimised away or
+ * wrong unseen. A labels-command is run as `COMMAND FILE EPSILON MIN_SAMPLES` over a file of points (x, y as doubles) and
+ * prints its CPU seconds and the number of labelled points.
  */
 #include "yolthugen.h"
 
@@ -174,7 +175,7 @@ double middle(std::vector<double> values)
 /* More turns where one is short. */
 int turns(size_t n)
 {
-    return quick ? 3 : n > 500000 ? 5 : n > 50000 ? 7 : 15;
+    return n > 500000 ? 5 : n > 50000 || (quick && n > 1000) ? 7 : 15;
 }
 
 Line best(const std::string &what, const Side &ours, const Side &geo, const Side &nano, int how_often)
@@ -183,18 +184,20 @@ Line best(const std::string &what, const Side &ours, const Side &geo, const Side
     std::vector<double> to_geo, to_nano;
     double a = 0, b = 0, c = 0;
     for (int i = 0; i < how_often; i++) {
-        double mine = once(ours, &a), other;
-        l.ours = std::min(l.ours, mine);
-        b = c = a;
-        if (geo.work) {
-            l.geo = std::min(l.geo, other = once(geo, &b));
-            to_geo.push_back(other / mine);
-        }
-        if (nano.work) {
-            l.nano = std::min(l.nano, other = once(nano, &c));
-            to_nano.push_back(other / mine);
-        }
+        double mine = 0, theirs = 0, flann = 0;
+        for (int j = 0; j < 3; j++)
+            switch ((i + j) % 3) { /* none is always the first of a turn */
+            case 0: l.ours = std::min(l.ours, mine = once(ours, &a)); break;
+            case 1: if (geo.work) l.geo = std::min(l.geo, theirs = once(geo, &b)); break;
+            default: if (nano.work) l.nano = std::min(l.nano, flann = once(nano, &c));
+            }
+        to_geo.push_back(theirs / mine);
+        to_nano.push_back(flann / mine);
     }
+    if (!geo.work)
+        b = a;
+    if (!nano.work)
+        c = a;
     if (geo.work)
         l.geo_ratio = middle(to_geo);
     if (nano.work)
