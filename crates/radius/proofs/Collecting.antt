@@ -24,7 +24,8 @@ use Rattle.search.specs.Result.{zeros}
 use Rattle.search.specs.declared.Found.the-variants.{Hits, Refused}
 use Rattle.search.proofs.Alike.{Like, Alike, walk-alike}
 use Rattle.radius.specs.Within.{within, finds, reply-of, Answered}
-use Rattle.radius.specs.Keeping.{Held, held, put, keep, keeping}
+use Rattle.radius.specs.Keeping.{Held, held, put, keep, keeping, kept}
+use Rattle.radius.proofs.Tallies.{kept-damaged, kept-count}
 
 -- ---- what a put leaves of a slice
 module _ (room n i : ℕ) (out : List ℕ) where
@@ -103,7 +104,7 @@ alike-meets : (room : ℕ) (out : List ℕ) (w : Walk Held) (u : Walk (List ℕ)
 alike-meets room out damage damage h = tt
 alike-meets room out (done s n d) (done z m e) h = h
 
-pub walk-meets : (t : Tree) (q : Coord) (r2 : Float) (room : ℕ) (out : List ℕ) → room ≤ length out
+walk-meets : (t : Tree) (q : Coord) (r2 : Float) (room : ℕ) (out : List ℕ) → room ≤ length out
     → (g : Got Held) → g ≡ outcome (walk-all t (keeping room (t .points) q r2) (held 0 out)) → Meets room out g (outcome (walk-all t (within (t .points) q r2) []))
 walk-meets t q r2 room out k g W =
     subst (λ (x : Got Held). Meets room out x (outcome (walk-all t (within (t .points) q r2) []))) (sym W)
@@ -114,7 +115,7 @@ walk-meets t q r2 room out k g W =
     go false = walk-alike (Tied room out) t (keeping room (t .points) q r2) (within (t .points) q r2) (keeping-like room out k (t .points) q r2 (count t)) (count t) 0 0 (count t) (held 0 out) [] (tied-none room out)
 
 -- ---- the answers
-pub answered-damage : (u : Got (List ℕ)) (room : ℕ) (is₀ is : List ℕ) → u ≡ broken → is ≡ zeros is₀ → Answered (reply-of u) room is₀ (Refused 9 0) is
+answered-damage : (u : Got (List ℕ)) (room : ℕ) (is₀ is : List ℕ) → u ≡ broken → is ≡ zeros is₀ → Answered (reply-of u) room is₀ (Refused 9 0) is
 answered-damage u room is₀ is e z = rw e (record { told-is = refl; hits-if-zero = λ h. absurd (omega arith); indices-are = z })
 
 finds-short : (z is₀ is : List ℕ) (room c : ℕ) → c ≡ length z → room < c → is ≡ is₀ → Answered (finds z) room is₀ (Refused 8 c) is
@@ -135,33 +136,33 @@ finds-room z is₀ is room c e h i =
       indices-are = i ∙ ap (λ (x : Bool). cond x is₀ (z ++ drop (length z) is₀)) (sym b);
     }
 
-pub zeros-same : (l m : List ℕ) → length l ≡ length m → zeros l ≡ zeros m
+zeros-same : (l m : List ℕ) → length l ≡ length m → zeros l ≡ zeros m
 zeros-same l m e = ap (λ (n : ℕ). replicate n 0) e
 
-pub meets-damage : (room : ℕ) (out : List ℕ) (g : Got Held) (u : Got (List ℕ)) → Meets room out g u → g ≡ broken → u ≡ broken
+meets-damage : (room : ℕ) (out : List ℕ) (g : Got Held) (u : Got (List ℕ)) → Meets room out g u → g ≡ broken → u ≡ broken
 meets-damage room out broken broken h e = refl
 meets-damage room out (got x) (got z) h e = let w : _≡_ {A = ℕ} 0 1 = cc in absurd (omega arith)
 
 -- a first walk, without room, and then
 module _ (is₀ : List ℕ) (g : Got Held) (u : Got (List ℕ)) (F : Meets 0 is₀ g u) (c : ℕ) (is₁ : List ℕ) (first : g ≡ got (held c is₁)) where
-  pub met : Meets 0 is₀ (got (held c is₁)) u
+  met : Meets 0 is₀ (got (held c is₁)) u
   met = subst (λ (x : Got Held). Meets 0 is₀ x u) first F
 
-  pub never-damage : (g' : Got Held) → Meets c is₁ g' u → g' ≡ broken → ⊥
+  never-damage : (g' : Got Held) → Meets c is₁ g' u → g' ≡ broken → ⊥
   never-damage g' M e = go u met (subst (λ (x : Got Held). Meets c is₁ x u) e M)
     where
       go : (u : Got (List ℕ)) → Meets 0 is₀ (got (held c is₁)) u → Meets c is₁ broken u → ⊥
       go broken m n = m
       go (got z) m n = n
 
-  pub untouched : is₁ ≡ is₀
+  untouched : is₁ ≡ is₀
   untouched = go u met
     where
       go : (u : Got (List ℕ)) → Meets 0 is₀ (got (held c is₁)) u → is₁ ≡ is₀
       go (got z) m = m .past
 
   -- there is not room for all
-  pub answered-short : (room : ℕ) → room < c → Answered (reply-of u) room is₀ (Refused 8 c) is₁
+  answered-short : (room : ℕ) → room < c → Answered (reply-of u) room is₀ (Refused 8 c) is₁
   answered-short room h = go u met
     where
       go : (u : Got (List ℕ)) → Meets 0 is₀ (got (held c is₁)) u → Answered (reply-of u) room is₀ (Refused 8 c) is₁
@@ -174,13 +175,13 @@ module _ (is₀ : List ℕ) (g : Got Held) (u : Got (List ℕ)) (F : Meets 0 is�
     met-again : Meets c is₁ (got (held n is₂)) u
     met-again = subst (λ (x : Got Held). Meets c is₁ x u) second M
 
-    pub as-many : n ≡ c
+    as-many : n ≡ c
     as-many = go u met met-again
       where
         go : (u : Got (List ℕ)) → Meets 0 is₀ (got (held c is₁)) u → Meets c is₁ (got (held n is₂)) u → n ≡ c
         go (got z) a b = omega (arith, a .counted, b .counted, sort-length (a .order), sort-length (b .order), ap length (a .sorted), ap length (b .sorted))
 
-    pub answered-hits : (is₃ : List ℕ) → SortedTo n is₂ is₃ → Answered (reply-of u) room is₀ (Hits n) is₃
+    answered-hits : (is₃ : List ℕ) → SortedTo n is₂ is₃ → Answered (reply-of u) room is₀ (Hits n) is₃
     answered-hits is₃ S = go u met met-again
       where
         go : (u : Got (List ℕ)) → Meets 0 is₀ (got (held c is₁)) u → Meets c is₁ (got (held n is₂)) u → Answered (reply-of u) room is₀ (Hits n) is₃
@@ -191,3 +192,32 @@ module _ (is₀ : List ℕ) (g : Got Held) (u : Got (List ℕ)) (F : Meets 0 is�
             let all : is₃ ≡ z ++ drop (length z) is₀ =
             sym (take-append-drop n is₃) ∙ ap (λ (x : List ℕ). x ++ drop n is₃) front ∙ ap (λ (x : List ℕ). z ++ x) past ∙ ap (λ (k : ℕ). z ++ drop k is₀) e in
             finds-room z is₀ is₃ room n e (omega (arith, as-many)) all
+
+-- ---- the two walks as they are made: the first without room, the second with room for as many as the first met
+module _ (t : Tree) (q : Coord) (r2 : Float) (is₀ : List ℕ) (b : Bool) (c : ℕ) (is₁ : List ℕ) (W : kept b c is₁ ≡ outcome (walk-all t (keeping 0 (t .points) q r2) (held 0 is₀))) where
+  abbrev u : Got (List ℕ)
+  u = outcome (walk-all t (within (t .points) q r2) [])
+
+  first : Meets 0 is₀ (kept b c is₁) u
+  first = walk-meets t q r2 0 is₀ (omega arith) (kept b c is₁) W
+
+  pub first-damaged : b ≡ false → length is₁ ≡ length is₀ → (room : ℕ) (is : List ℕ) → is ≡ zeros is₁ → Answered (reply-of u) room is₀ (Refused 9 0) is
+  first-damaged e same room is z =
+      answered-damage u room is₀ is (meets-damage 0 is₀ (kept b c is₁) u first (kept-damaged b c is₁ e)) (z ∙ zeros-same is₁ is₀ same)
+
+  module _ (e : b ≡ true) where
+    pub first-short : (room : ℕ) → room < c → Answered (reply-of u) room is₀ (Refused 8 c) is₁
+    first-short = answered-short is₀ (kept b c is₁) u first c is₁ (kept-count b c is₁ e)
+
+    module _ (same : length is₁ ≡ length is₀) (room : ℕ) (fits : c ≤ room) (inside : room ≤ length is₀) (d : Bool) (n : ℕ) (is₂ : List ℕ) (U : kept d n is₂ ≡ outcome (walk-all t (keeping c (t .points) q r2) (held 0 is₁))) where
+      second : Meets c is₁ (kept d n is₂) u
+      second = walk-meets t q r2 c is₁ (omega arith) (kept d n is₂) U
+
+      pub second-whole : d ≡ false → ⊥
+      second-whole f = never-damage is₀ (kept b c is₁) u first c is₁ (kept-count b c is₁ e) (kept d n is₂) second (kept-damaged d n is₂ f)
+
+      pub second-many : d ≡ true → n ≡ c
+      second-many f = as-many is₀ (kept b c is₁) u first c is₁ (kept-count b c is₁ e) room fits inside (kept d n is₂) second n is₂ (kept-count d n is₂ f)
+
+      pub second-hits : d ≡ true → (is₃ : List ℕ) → SortedTo n is₂ is₃ → Answered (reply-of u) room is₀ (Hits n) is₃
+      second-hits f = answered-hits is₀ (kept b c is₁) u first c is₁ (kept-count b c is₁ e) room fits inside (kept d n is₂) second n is₂ (kept-count d n is₂ f)

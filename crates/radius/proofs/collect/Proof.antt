@@ -10,8 +10,8 @@ use Rattle.tree.specs.Accepted.{tree}
 use Rattle.search.specs.Walk.{walk-all, outcome}
 use Rattle.radius.specs.Within.{within}
 use Rattle.radius.specs.Keeping.{kept}
-use Rattle.radius.proofs.Tallies.{kept-damaged, kept-count, few-count}
-use Rattle.radius.proofs.Collecting.{walk-meets, answered-damage, zeros-same, meets-damage, never-damage, answered-short, as-many, answered-hits}
+use Rattle.radius.proofs.Tallies.{few-count}
+use Rattle.radius.proofs.Collecting.{first-damaged, first-short, second-whole, second-many, second-hits}
 use Rattle.radius.proofs.collect.Statement.{statement}
 use Rattle.radius.proofs.collect.Tie as tie
 
@@ -29,17 +29,9 @@ same-length c = search needs
 returns : tie.Need-returns
 returns c =
     let f = c .before .before .before .before .before .before .before in
-    let st = f .before .before .before .before .before .before .before .before in
-    let a = st .args in
-    let T = tree (now (a .points)) (now (a .indices)) (now (a .boxes)) (now (a .links)) in
-    let u = outcome (walk-all T (within (now (a .points)) (a .q) (a .r2)) []) in
-    let is₀ = now (a .out) in
+    let a = f .before .before .before .before .before .before .before .before .args in
     let w = f .radius-all in
-    let is₁ = w .last .1 .1 .1 .1 .1 .1 .0 in
-    let n = w .last .1 .1 .1 .1 .1 .1 .1 .1 .0 in
-    let g = kept (w .result) n is₁ in
-    let F = walk-meets T (a .q) (a .r2) 0 is₀ (omega arith) g (w .ensures .0) in
-    answered-damage u (a .room) is₀ _ (meets-damage 0 is₀ g u F (kept-damaged (w .result) n is₁ (not-true (w .result) (c .before .before .before .before .if1 .taken)))) (c .before .before .clear .ensures ∙ zeros-same is₁ is₀ (w .kept .1 .1 .1 .1 .1 .1 .0))
+    first-damaged (tree (now (a .points)) (now (a .indices)) (now (a .boxes)) (now (a .links))) (a .q) (a .r2) (now (a .out)) (w .result) (w .last .1 .1 .1 .1 .1 .1 .1 .1 .0) (w .last .1 .1 .1 .1 .1 .1 .0) (w .ensures .0) (not-true (w .result) (c .before .before .before .before .if1 .taken)) (w .kept .1 .1 .1 .1 .1 .1 .0) (a .room) _ (c .before .before .clear .ensures)
 
 cast-t21 : tie.Need-cast-t21
 cast-t21 c =
@@ -52,17 +44,9 @@ same-length-2 c = search needs
 returns-2 : tie.Need-returns-2
 returns-2 c =
     let f = c .before .before .before .before .before in
-    let st = f .before .before .before .before .before .before .before .before in
-    let a = st .args in
-    let T = tree (now (a .points)) (now (a .indices)) (now (a .boxes)) (now (a .links)) in
-    let u = outcome (walk-all T (within (now (a .points)) (a .q) (a .r2)) []) in
-    let is₀ = now (a .out) in
+    let a = f .before .before .before .before .before .before .before .before .args in
     let w = f .radius-all in
-    let is₁ = w .last .1 .1 .1 .1 .1 .1 .0 in
-    let n = w .last .1 .1 .1 .1 .1 .1 .1 .1 .0 in
-    let g = kept (w .result) n is₁ in
-    let F = walk-meets T (a .q) (a .r2) 0 is₀ (omega arith) g (w .ensures .0) in
-    answered-short is₀ g u F n is₁ (kept-count (w .result) n is₁ (not-false (w .result) (c .before .before .if1 .left))) (a .room) (c .before .if2 .taken)
+    first-short (tree (now (a .points)) (now (a .indices)) (now (a .boxes)) (now (a .links))) (a .q) (a .r2) (now (a .out)) (w .result) (w .last .1 .1 .1 .1 .1 .1 .1 .1 .0) (w .last .1 .1 .1 .1 .1 .1 .0) (w .ensures .0) (not-false (w .result) (c .before .before .if1 .left)) (a .room) (c .before .if2 .taken)
 
 radius-all-requires-2 : tie.Need-radius-all-requires-2
 radius-all-requires-2 c κs =
@@ -82,23 +66,9 @@ returns-3 c =
     let f = h .before .before .before .before .before .before .before in
     let st = f .before .before .before .before .before .before .before .before in
     let a = st .args in
-    let T = tree (now (a .points)) (now (a .indices)) (now (a .boxes)) (now (a .links)) in
-    let u = outcome (walk-all T (within (now (a .points)) (a .q) (a .r2)) []) in
-    let is₀ = now (a .out) in
     let w = f .radius-all in
-    let is₁ = w .last .1 .1 .1 .1 .1 .1 .0 in
-    let n = w .last .1 .1 .1 .1 .1 .1 .1 .1 .0 in
-    let g = kept (w .result) n is₁ in
-    let F = walk-meets T (a .q) (a .r2) 0 is₀ (omega arith) g (w .ensures .0) in
-    let e = kept-count (w .result) n is₁ (not-false (w .result) (h .before .before .before .before .if1 .left)) in
-    let fits = h .before .before .before .if2 .left in
-    let same = w .kept .1 .1 .1 .1 .1 .1 .0 in
     let v = h .radius-all2 in
-    let is₂ = v .last .1 .1 .1 .1 .1 .1 .0 in
-    let m = v .last .1 .1 .1 .1 .1 .1 .1 .1 .0 in
-    let g' = kept (v .result) m is₂ in
-    let M = walk-meets T (a .q) (a .r2) n is₁ (omega (arith, same, fits, st .pre .inside)) g' (v .ensures .0) in
-    absurd (never-damage is₀ g u F n is₁ e g' M (kept-damaged (v .result) m is₂ (not-true (v .result) (c .before .before .before .before .if3 .taken))))
+    absurd (second-whole (tree (now (a .points)) (now (a .indices)) (now (a .boxes)) (now (a .links))) (a .q) (a .r2) (now (a .out)) (w .result) (w .last .1 .1 .1 .1 .1 .1 .1 .1 .0) (w .last .1 .1 .1 .1 .1 .1 .0) (w .ensures .0) (not-false (w .result) (h .before .before .before .before .if1 .left)) (w .kept .1 .1 .1 .1 .1 .1 .0) (a .room) (h .before .before .before .if2 .left) (st .pre .inside) (v .result) (v .last .1 .1 .1 .1 .1 .1 .1 .1 .0) (v .last .1 .1 .1 .1 .1 .1 .0) (v .ensures .0) (not-true (v .result) (c .before .before .before .before .if3 .taken)))
 
 sort-requires : tie.Need-sort-requires
 sort-requires c κs =
@@ -106,24 +76,10 @@ sort-requires c κs =
     let f = h .before .before .before .before .before .before .before in
     let st = f .before .before .before .before .before .before .before .before in
     let a = st .args in
-    let T = tree (now (a .points)) (now (a .indices)) (now (a .boxes)) (now (a .links)) in
-    let u = outcome (walk-all T (within (now (a .points)) (a .q) (a .r2)) []) in
-    let is₀ = now (a .out) in
     let w = f .radius-all in
-    let is₁ = w .last .1 .1 .1 .1 .1 .1 .0 in
-    let n = w .last .1 .1 .1 .1 .1 .1 .1 .1 .0 in
-    let g = kept (w .result) n is₁ in
-    let F = walk-meets T (a .q) (a .r2) 0 is₀ (omega arith) g (w .ensures .0) in
-    let e = kept-count (w .result) n is₁ (not-false (w .result) (h .before .before .before .before .if1 .left)) in
-    let fits = h .before .before .before .if2 .left in
-    let same = w .kept .1 .1 .1 .1 .1 .1 .0 in
     let v = h .radius-all2 in
-    let is₂ = v .last .1 .1 .1 .1 .1 .1 .0 in
-    let m = v .last .1 .1 .1 .1 .1 .1 .1 .1 .0 in
-    let g' = kept (v .result) m is₂ in
-    let M = walk-meets T (a .q) (a .r2) n is₁ (omega (arith, same, fits, st .pre .inside)) g' (v .ensures .0) in
-    let k = as-many is₀ g u F n is₁ e (a .room) fits (st .pre .inside) g' M m is₂ (kept-count (v .result) m is₂ (not-false (v .result) (c .before .if3 .left))) in
-    omega (arith, k, same, v .kept .1 .1 .1 .1 .1 .1 .0, fits, st .pre .inside)
+    let k = second-many (tree (now (a .points)) (now (a .indices)) (now (a .boxes)) (now (a .links))) (a .q) (a .r2) (now (a .out)) (w .result) (w .last .1 .1 .1 .1 .1 .1 .1 .1 .0) (w .last .1 .1 .1 .1 .1 .1 .0) (w .ensures .0) (not-false (w .result) (h .before .before .before .before .if1 .left)) (w .kept .1 .1 .1 .1 .1 .1 .0) (a .room) (h .before .before .before .if2 .left) (st .pre .inside) (v .result) (v .last .1 .1 .1 .1 .1 .1 .1 .1 .0) (v .last .1 .1 .1 .1 .1 .1 .0) (v .ensures .0) (not-false (v .result) (c .before .if3 .left)) in
+    omega (arith, k, w .kept .1 .1 .1 .1 .1 .1 .0, v .kept .1 .1 .1 .1 .1 .1 .0, h .before .before .before .if2 .left, st .pre .inside)
 
 cast-t31 : tie.Need-cast-t31
 cast-t31 c =
@@ -139,23 +95,9 @@ returns-4 c =
     let f = h .before .before .before .before .before .before .before in
     let st = f .before .before .before .before .before .before .before .before in
     let a = st .args in
-    let T = tree (now (a .points)) (now (a .indices)) (now (a .boxes)) (now (a .links)) in
-    let u = outcome (walk-all T (within (now (a .points)) (a .q) (a .r2)) []) in
-    let is₀ = now (a .out) in
     let w = f .radius-all in
-    let is₁ = w .last .1 .1 .1 .1 .1 .1 .0 in
-    let n = w .last .1 .1 .1 .1 .1 .1 .1 .1 .0 in
-    let g = kept (w .result) n is₁ in
-    let F = walk-meets T (a .q) (a .r2) 0 is₀ (omega arith) g (w .ensures .0) in
-    let e = kept-count (w .result) n is₁ (not-false (w .result) (h .before .before .before .before .if1 .left)) in
-    let fits = h .before .before .before .if2 .left in
-    let same = w .kept .1 .1 .1 .1 .1 .1 .0 in
     let v = h .radius-all2 in
-    let is₂ = v .last .1 .1 .1 .1 .1 .1 .0 in
-    let m = v .last .1 .1 .1 .1 .1 .1 .1 .1 .0 in
-    let g' = kept (v .result) m is₂ in
-    let M = walk-meets T (a .q) (a .r2) n is₁ (omega (arith, same, fits, st .pre .inside)) g' (v .ensures .0) in
-    answered-hits is₀ g u F n is₁ e (a .room) fits (st .pre .inside) g' M m is₂ (kept-count (v .result) m is₂ (not-false (v .result) (c .before .before .before .before .before .if3 .left))) _ (c .before .before .before .sort .ensures)
+    second-hits (tree (now (a .points)) (now (a .indices)) (now (a .boxes)) (now (a .links))) (a .q) (a .r2) (now (a .out)) (w .result) (w .last .1 .1 .1 .1 .1 .1 .1 .1 .0) (w .last .1 .1 .1 .1 .1 .1 .0) (w .ensures .0) (not-false (w .result) (h .before .before .before .before .if1 .left)) (w .kept .1 .1 .1 .1 .1 .1 .0) (a .room) (h .before .before .before .if2 .left) (st .pre .inside) (v .result) (v .last .1 .1 .1 .1 .1 .1 .1 .1 .0) (v .last .1 .1 .1 .1 .1 .1 .0) (v .ensures .0) (not-false (v .result) (c .before .before .before .before .before .if3 .left)) _ (c .before .before .before .sort .ensures)
 
 pub collect-spec : {M : Type 1} → statement M
 collect-spec =
