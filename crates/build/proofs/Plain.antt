@@ -194,48 +194,42 @@ module _ (points : List Float) (axis : ℕ) (part : List ℕ) (sought k : ℕ) (
   pub missed-all : length part ≤ k → (v : ℕ) → v ∈ part → toBits binary64 (coord points axis v) ≡ sought → ⊥
   missed-all h v g e = let p = place v part g in M (p .at) (omega (arith, p .inside)) (rw (p .is) e)
 
--- ---- with the zeros settled, the plain box is the tight one
+-- ---- with its zero settled, an end by the order of numbers is one by keys: the least where R is ≤, the greatest where it is ≥
+record End (points : List Float) (axis : ℕ) (part : List ℕ) (R : ℕ → ℕ → Type 0) (r : Float) : Type 0 where
+  at : ℕ
+  inside : at ∈ part
+  is : r ≡ coord points axis at
+  bounds : (v : ℕ) → v ∈ part → R (key r) (key-at points axis v)
+
+module _ (points : List Float) (axis : ℕ) (part : List ℕ) (R : ℕ → ℕ → Type 0) (had sought : ℕ) (same : (a b : ℕ) → a ≡ b → R a b) (turn : (k : ℕ) → R (key-bits had) k → R (key-bits sought) k) where
+  module _ (end : Float) (at : ℕ) (inside : at ∈ part) (is : end ≡ coord points axis at) (by-key : (v : ℕ) → v ∈ part → R (key end) (key-at points axis v) ⊎ ((toBits binary64 end ≡ had) × (toBits binary64 (coord points axis v) ≡ sought))) where
+    settled-end : {r : Float} → Settled points axis part end had sought r → End points axis part R r
+    settled-end (kept n) = record { at = at; inside = inside; is = is; bounds = λ v g. ⊎-elim (λ k. k) (λ z. absurd (n (z .0) v g (z .1))) (by-key v g) }
+    settled-end (turned w e g s) = record {
+      at = w;
+      inside = g;
+      is = refl;
+      bounds = λ v h.
+          let at-v : ℕ → Type 0 = λ k. R k (key-at points axis v) in
+          ⊎-elim (λ k. subst at-v (sym (ap key-bits s)) (turn (key-at points axis v) (subst at-v (ap key-bits e) k))) (λ z. same (key (coord points axis w)) (key-at points axis v) (ap key-bits (s ∙ sym (z .1)))) (by-key v h);
+    }
+
+-- ---- so the plain box is the tight one
 module _ (points : List Float) (part : List ℕ) (fit : (k : ℕ) → T (fits binary64 (getD points k nan))) where
   module _ (axis : ℕ) (lo hi : Float) (t : Plain points axis part lo hi) where
-    low-by-key : (v : ℕ) → v ∈ part → (key lo ≤ key-at points axis v) ⊎ ((toBits binary64 lo ≡ plus-zero) × (toBits binary64 (coord points axis v) ≡ minus-zero))
-    low-by-key v g = key-of-le lo (coord points axis v) (rw (t .low-is) (fit (2 * t .low + axis))) (fit (2 * v + axis)) (t .least v g)
+    low-end : {r : Float} → Settled points axis part lo plus-zero minus-zero r → End points axis part (λ a b. a ≤ b) r
+    low-end = settled-end points axis part (λ a b. a ≤ b) plus-zero minus-zero (λ a b e. le-of-eq e) (λ k h. omega (arith, zeros-in-order)) lo (t .low) (t .low-in) (t .low-is)
+        (λ v g. key-of-le lo (coord points axis v) (rw (t .low-is) (fit (2 * t .low + axis))) (fit (2 * v + axis)) (t .least v g))
 
-    high-by-key : (v : ℕ) → v ∈ part → (key-at points axis v ≤ key hi) ⊎ ((toBits binary64 (coord points axis v) ≡ plus-zero) × (toBits binary64 hi ≡ minus-zero))
-    high-by-key v g = key-of-le (coord points axis v) hi (fit (2 * v + axis)) (rw (t .high-is) (fit (2 * t .high + axis))) (t .greatest v g)
-
-    low-end : {r : Float} → Settled points axis part lo plus-zero minus-zero r → record { at : ℕ; inside : at ∈ part; is : r ≡ coord points axis at; least : (v : ℕ) → v ∈ part → key r ≤ key-at points axis v }
-    low-end (kept n) = record {
-      at = t .low;
-      inside = t .low-in;
-      is = t .low-is;
-      least = λ v g. ⊎-elim (λ k. k) (λ z. absurd (n (z .0) v g (z .1))) (low-by-key v g);
-    }
-    low-end (turned w e g s) = record {
-      at = w;
-      inside = g;
-      is = refl;
-      least = λ v h. ⊎-elim (λ (k : key lo ≤ key-at points axis v). omega (arith, zeros-in-order, ap key-bits e, ap key-bits s)) (λ z. le-of-eq (ap key-bits (s ∙ sym (z .1)))) (low-by-key v h);
-    }
-
-    high-end : {r : Float} → Settled points axis part hi minus-zero plus-zero r → record { at : ℕ; inside : at ∈ part; is : r ≡ coord points axis at; most : (v : ℕ) → v ∈ part → key-at points axis v ≤ key r }
-    high-end (kept n) = record {
-      at = t .high;
-      inside = t .high-in;
-      is = t .high-is;
-      most = λ v g. ⊎-elim (λ k. k) (λ z. absurd (n (z .1) v g (z .0))) (high-by-key v g);
-    }
-    high-end (turned w e g s) = record {
-      at = w;
-      inside = g;
-      is = refl;
-      most = λ v h. ⊎-elim (λ (k : key-at points axis v ≤ key hi). omega (arith, zeros-in-order, ap key-bits e, ap key-bits s)) (λ z. le-of-eq (ap key-bits (z .0 ∙ sym s))) (high-by-key v h);
-    }
+    high-end : {r : Float} → Settled points axis part hi minus-zero plus-zero r → End points axis part (λ a b. b ≤ a) r
+    high-end = settled-end points axis part (λ a b. b ≤ a) minus-zero plus-zero (λ a b e. le-of-eq (sym e)) (λ k h. omega (arith, zeros-in-order)) hi (t .high) (t .high-in) (t .high-is)
+        (λ v g. ⊎-elim inl (λ z. inr (z .1, z .0)) (key-of-le (coord points axis v) hi (fit (2 * v + axis)) (rw (t .high-is) (fit (2 * t .high + axis))) (t .greatest v g)))
 
     tight-of : {p q : Float} → Settled points axis part lo plus-zero minus-zero p → Settled points axis part hi minus-zero plus-zero q → Tight points axis part p q
     tight-of s u =
         let l = low-end s in
         let h = high-end u in
-        record { low = l .at; low-in = l .inside; low-is = l .is; least = l .least; high = h .at; high-in = h .inside; high-is = h .is; greatest = h .most }
+        record { low = l .at; low-in = l .inside; low-is = l .is; least = l .bounds; high = h .at; high-in = h .inside; high-is = h .is; greatest = h .bounds }
 
   pub box-of-plain : (b : Bounds) (x0 x1 y0 y1 : Float) → PlainBox points part b
       → Settled points 0 part (b .«min_x») plus-zero minus-zero x0 → Settled points 0 part (b .«max_x») minus-zero plus-zero x1
