@@ -7,7 +7,7 @@ use Prim.Native.Nat.{ℕ, ◌+◌, ◌*◌, ◌≤◌, ◌<◌}
 use native.Mathlib.Omega.{arith}
 use lib.Dec.{T, ltb}
 use lib.ListN.{get_or}
-use lib.Ieee.{Float, fin, le, lt, is_nan}
+use lib.Ieee.{Float, fin, le, lt, is_nan, nan, inf}
 use lib.Ieee.Fits.{and_l, and_r, and_i}
 use lib.Ieee.Scale.{finite}
 use borrow.Author.Tests.{ltb-true, ltb-false}
@@ -26,6 +26,8 @@ of_true b e = subst T (sym e) tt
 no_nan : (p : Float) → T (finite p) → T (not (is_nan p))
 unfolding is_nan
 no_nan (fin s m e) h = tt
+no_nan nan h = elim h [ ]
+no_nan (inf _) h = elim h [ ]
 
 lt_true_le : (p q : Float) → lt p q ≡ true → T (le p q)
 lt_true_le p q e = lt→le p q (of_true (lt p q) e)

@@ -66,10 +66,10 @@ module _ (t : Tree) (v a e : ℕ) where
     says-right R N = R (halves l r k N).1
 
 -- ---- the same in the terms of the code
-pub kind-leaf : (k : Kind) → OneOf (0 ∷ 1 ∷ []) (tag_of K.the_type k) → OneOf (0 ∷ 2 ∷ []) (tag_of K.the_type k) → k ≡ Leaf
+pub kind-leaf : (k : Kind) → (k ≡ kinds.Damaged → ⊥) → ((x y : ℕ) → k ≡ Branch x y → ⊥) → k ≡ Leaf
 kind-leaf Leaf o u = refl
-kind-leaf (Branch l r) o u = absurd (elim u [ inl h ↦ omega arith | inr h ↦ omega arith ])
-kind-leaf kinds.Damaged o u = absurd (elim o [ inl h ↦ omega arith | inr h ↦ omega arith ])
+kind-leaf (Branch l r) o u = absurd (u l r refl)
+kind-leaf kinds.Damaged o u = absurd (o refl)
 
 module _ (t : Tree) (v a e : ℕ) (r : Part) (b : Bounds) (B : b ≡ bounds t.boxes v) where
   pub at_leaf : (s : Extent) → r ≡ tested b s → kind t.boxes t.links v a e ≡ Leaf → Tight t.points t.indices a e s → Says t v a e r
@@ -82,6 +82,11 @@ module _ (t : Tree) (v a e : ℕ) (r : Part) (b : Bounds) (B : b ≡ bounds t.bo
       (says-branch t v a e i j k O E s u (subst (Says t i a (mid a e)) p X) (subst (Says t j (mid a e) e) q Y))
 
 -- ---- node 0
-pub whole-sound : (t : Tree) (v a e : ℕ) (r : Part) → OneOf (0 ∷ []) (tag_of P.the_type r) → Says t v a e r → Sound t v a e
+-- a part that is not whole is damaged
+pub not_whole : (r : Part) → ((s : Extent) → r ≡ Whole s → ⊥) → r ≡ Damaged
+not_whole (Whole s) o = absurd (o s refl)
+not_whole Damaged o = refl
+
+pub whole-sound : (t : Tree) (v a e : ℕ) (r : Part) → (r ≡ Damaged → ⊥) → Says t v a e r → Sound t v a e
 whole-sound t v a e (Whole s) o h = h.0
-whole-sound t v a e Damaged o h = let z : ◌≡◌ {A = ℕ} 1 0 = o in absurd (omega arith)
+whole-sound t v a e Damaged o h = absurd (o refl)

@@ -5,7 +5,7 @@ ghost use Rattle.accept.specs.Inner.{low_of, high_of, joined, dot, inside, fits,
 use distance::Bounds;
 
 // The least and the greatest of each coordinate.
-#[derive(Drop)]
+#[derive(Clone, Copy)]
 pub struct Extent {
     pub min_x: f64,
     pub max_x: f64,

@@ -1,6 +1,9 @@
 // Checks a good tree, and the same tree with one field changed at a time; writes a line for each: the case, and the number
 // (0: accepted) and the detail that the check answers.
+#![tactic(auto)]
+
 use accept::Checked;
+use std::io;
 
 // What is changed: a value at a place of one of the four slices, or how much of one of them is lent.
 #[derive(Drop)]
@@ -185,22 +188,16 @@ fn answer(c: Change) -> Checked {
     }
 }
 
-fn say(case: u32, number: u32, detail: u32) {
-    io::print_decimal(1, case as u64);
-    io::write_all(1, b": ");
-    io::print_decimal(1, number as u64);
-    io::write_all(1, b" ");
-    io::print_decimal(1, detail as u64);
-    io::write_all(1, b"\n");
+fn say(rt: &impl Print, case: u32, number: u32, detail: u32) -> io::Result<()> {
+    println!(rt; "{case}: {number} {detail}")
 }
 
-fn main() {
-    let mut case: u32 = 0;
-    while case < 43 {
+fn main(rt: HostRuntime) -> io::Result<()> {
+    for case in 0..43 {
         match answer(change_of(case)) {
-            Checked::Accepted => say(case, 0, 0),
-            Checked::Refused(number, detail) => say(case, number, detail),
+            Checked::Accepted => say(&rt, case, 0, 0)?,
+            Checked::Refused(number, detail) => say(&rt, case, number, detail)?,
         }
-        case += 1;
     }
+    Ok(())
 }

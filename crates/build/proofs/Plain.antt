@@ -160,6 +160,11 @@ zeros (fin true m e) (fin false n d) h p q =
     let z = eqb→eq a 0 (and_r (eqb a b) (eqb a 0) h) in
     let w = eqb→eq a b (and_l (eqb a b) (eqb a 0) h) in
     (zero_bits true m e d z ∙ unfold to_bits in refl, zero_bits false n d e (sym w ∙ z) ∙ unfold to_bits in refl)
+zeros nan y h p q = elim h [ ]
+zeros (inf false) y h p q = elim p [ ]
+zeros (inf true) (inf true) h p q = elim q [ ]
+zeros (fin false m e) y h p q = elim p [ ]
+zeros (fin true m e) (fin true n d) h p q = elim q [ ]
 
 -- x stands before y by totalOrder and not as a number: they are -0 and +0
 before-zeros : (x y : Float) → T (le y x) → T (total_lt x y) → (to_bits binary64 x ≡ minus_zero) × (to_bits binary64 y ≡ plus_zero)

@@ -89,8 +89,8 @@ module _ (points : List Float) (leaf node start nl nr : ℕ) (part₀ p1 p2 p3 l
     rest1 : drop 6 b1 ≡ drop 6 boxes₀
     rest1 = ap (drop 6) b1e ∙ drop_at own (drop 6 boxes₀) 6 B.six
 
-    b2-is : b2 ≡ own ++ D
-    b2-is = b2e ∙ ap (λ (z : List Float). z ++ D) front
+    b2_is : b2 ≡ own ++ D
+    b2_is = b2e ∙ ap (λ (z : List Float). z ++ D) front
 
     d_room : 6 * nl ≤ length D
     d_room = omega (arith, De, ap length rest1, length-drop 6 boxes₀, M.floats, all-is)
@@ -99,10 +99,10 @@ module _ (points : List Float) (leaf node start nl nr : ℕ) (part₀ p1 p2 p3 l
     d_rest = G1.boxes_rest ∙ ap (drop (6 * nl)) rest1
 
     e_rest : drop (6 * nr) E ≡ drop (6 * nr) (drop (6 + 6 * nl) (own ++ D))
-    e_rest = G2.boxes_rest ∙ ap (λ (z : List Float). drop (6 * nr) (drop (6 + 6 * nl) z)) b2-is
+    e_rest = G2.boxes_rest ∙ ap (λ (z : List Float). drop (6 * nr) (drop (6 + 6 * nl) z)) b2_is
 
     b3_is : b3 ≡ take (6 + 6 * nl) (own ++ D) ++ E
-    b3_is = b3e ∙ ap (λ (z : List Float). take (6 + 6 * nl) z ++ E) b2-is
+    b3_is = b3e ∙ ap (λ (z : List Float). take (6 + 6 * nl) z ++ E) b2_is
 
     six-all : 6 * (1 + nl + nr) ≡ 6 + (6 * nl + 6 * nr)
     six-all = omega arith

@@ -8,6 +8,8 @@
 // uniform points take 150 ms; sorted, reversed, equal, organ pipe, few values, and an order played against `select`
 // itself took from half of that to four tenths more.
 // Where a row of the refusals applies, the answer says which, and no slice is touched.
+#![tactic(auto)]
+
 ghost use Rattle.std.specs.Prelude.{◌≡◌, ◌⊎◌, ◌∷◌, ◌++◌, ◌/◌, ◌^◌, ◌<◌, ◌≤◌, length, drop};
 ghost use Rattle.distance.specs.Distance.{larger};
 ghost use Rattle.tree.specs.Accepted.{tree};

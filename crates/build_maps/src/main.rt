@@ -1,21 +1,26 @@
 // Builds recorded maps and prints their trees. Standard input has the maps and the expected output was worked out by
 // oracle/build_maps.py, from the rules and not from this project's code.
+#![tactic(auto)]
+
 mod maps;
 
-use libc::STDIN_FILENO;
+use std::io;
+use std::io::Read;
 
-fn main() {
-    let mut text = [0u8; 131072];
-    let n = io::read_full(STDIN_FILENO, &mut text);
+fn main(rt: HostRuntime) -> io::Result<()> {
+    let mut text = Vec::new(rt.alloc());
+    rt.stdin().take(131_072).read_to_end(&mut text)?;
     let mut points = [0.0; 1024];
     let mut indices = [0u32; 512];
     let mut boxes = [0.0; 1536];
     let mut links = [0u32; 1024];
     let _ = maps::print_all(
-        &text[..n],
+        &rt,
+        text.as_slice(),
         &mut points,
         &mut indices,
         &mut boxes,
         &mut links,
-    );
+    )?;
+    Ok(())
 }

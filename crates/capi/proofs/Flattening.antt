@@ -16,11 +16,11 @@ use Rattle.nearest.specs.declared.Nearest.{Nearest}
 use Rattle.nearest.specs.Nearest.{Answers, told}
 use Rattle.capi.specs.Flat.{Flat, cell, Nears, Builds}
 
-pub flat_case : {A : Type 0} (P : A → Type 0) (number_of_lem second_of : A → ℕ) {r : A} (a : A) → P r → r ≡ a → Flat P number_of_lem second_of (number_of_lem a) (second_of a)
-flat_case P number_of_lem second_of {r} a p is-a = record {
+pub flat_case : {A : Type 0} (P : A → Type 0) (number_of second_of : A → ℕ) {r : A} (a : A) → P r → r ≡ a → Flat P number_of second_of (number_of a) (second_of a)
+flat_case P number_of second_of {r} a p is-a = record {
   answer = r;
   promised = p;
-  number_is = sym (ap number_of_lem is-a);
+  number_is = sym (ap number_of is-a);
   second_is = sym (ap second_of is-a);
 }
 

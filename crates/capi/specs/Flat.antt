@@ -1,5 +1,5 @@
 -- An entry's answer as C has it: a number that is returned, 0 or a refusal's, and a second number in a cell.
---   Flat P number_of_lem second_of number second
+--   Flat P number_of second_of number second
 --                            some answer that the entry's own promise P allows was given as these two numbers
 --   cell number zero new old what a cell holds afterwards: zero on a 9; else the new value, where there is one; else the old
 --   Checks t number detail   the tree check, of t
@@ -32,10 +32,10 @@ use Rattle.search.specs.Answer.{Answers}
 use Rattle.k_nearest.specs.Query.{answer}
 use Rattle.radius.specs.Within.{reply, Answered, WithDistances}
 
-pub record Flat {A : Type 0} (P : A → Type 0) (number_of_lem second_of : A → ℕ) (number second : ℕ) : Type 0 where
+pub record Flat {A : Type 0} (P : A → Type 0) (number_of second_of : A → ℕ) (number second : ℕ) : Type 0 where
   pub answer : A
   pub promised : P answer
-  pub number_is : number ≡ number_of_lem answer
+  pub number_is : number ≡ number_of answer
   pub second_is : second ≡ second_of answer
 
 abbrev pub Checks : Tree → ℕ → ℕ → Type 0

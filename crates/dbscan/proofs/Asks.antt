@@ -34,6 +34,7 @@ picked-hits p (suc k) = go (p k) (picked-hits p k)
 
 is_true : (b : Bool) → T b → b ≡ true
 is_true true h = refl
+is_true false h = elim h [ ]
 
 module _ (t : Tree) (epsilon : Float) (i : ℕ) (out₀ : List ℕ) (A : Asked t epsilon i out₀) where
   accepted : Accepted t

@@ -29,6 +29,11 @@ quiet_cases n m h = go (eqb m 0) refl (ltb n m) refl h
     go false e true f h = inr (ltb-true n m f)
     go false e false f h = absurd (true_false (sym h))
 
+-- an answer that is not labels is a refusal
+pub not_labelled : (r : Labelling) → (r ≡ answer.Labelled → ⊥) → (number detail : ℕ) × (r ≡ answer.Refused number detail)
+not_labelled answer.Labelled h = absurd (h refl)
+not_labelled (answer.Refused number detail) h = (number, detail, refl)
+
 busy_asked : (n m : ℕ) → quiet n m ≡ false → 1 ≤ m
 busy_asked n zero h = absurd (true_false h)
 busy_asked n (suc m) h = omega arith

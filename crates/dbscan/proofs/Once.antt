@@ -49,6 +49,7 @@ module _ (points : List Float) (epsilon : Float) (i b k labels work : ℕ) where
     where
       is_true : (b : Bool) → T b → b ≡ true
       is_true true h = refl
+      is_true false h = elim h [ ]
 
 module _ (epsilon : Float) (m : ℕ) (s₀ : Slices) where
   abbrev n : ℕ

@@ -7,6 +7,8 @@
 // label, 0, 1, 2 and so on by their least index; another neighbour of a core has the least label beside it; the rest is
 // `labels::NOISE`. Each point is asked for its neighbours once, by one radius query. Where a row of the refusals applies, the
 // answer says which, and no slice is touched.
+#![tactic(auto)]
+
 mod grow;
 
 ghost use Rattle.std.specs.Prelude.{◌≡◌, length};

@@ -9,7 +9,7 @@ use Prim.Native.Nat.{ℕ, ◌+◌, ◌-◌, ◌*◌, ◌≤◌, ◌<◌}
 use native.Mathlib.Nat.{le_trans, le_of_eq, le_of_lt, mul_comm, mul-pos, mul-le-mul_right, add-mul, mul-sub}
 use native.Mathlib.Omega.{arith}
 use lib.Dec.{T, ltb, eqb, eqb→eq, ltb→lt, nltb→le}
-use lib.Ieee.{Float, fin, binary64, up, down, le, lt, eq}
+use lib.Ieee.{Float, fin, binary64, up, down, le, lt, eq, nan, inf}
 use lib.Ieee.Fits.{down_pos, and_l, and_r}
 use lib.Ieee.Order.{round_mono}
 use lib.Ieee.Scale.{finite}
@@ -32,6 +32,12 @@ lt→strictly_under (fin true m e) (fin true n d) p q h = let k = ltb→lt (n * 
 lt→strictly_under (fin true m e) (fin false n d) p q h = let k = ltb→lt 0 (m * up e * down d + n * up d * down e) h in omega arith
 lt→strictly_under (fin false m e) (fin true n d) p q h = absurd h
 lt→strictly_under (fin false m e) (fin false n d) p q h = let k = ltb→lt (m * up e * down d) (n * up d * down e) h in omega arith
+lt→strictly_under nan y p q h = elim p [ ]
+lt→strictly_under (inf _) y p q h = elim p [ ]
+lt→strictly_under (fin false m e) nan p q h = elim q [ ]
+lt→strictly_under (fin false m e) (inf _) p q h = elim q [ ]
+lt→strictly_under (fin true m e) nan p q h = elim q [ ]
+lt→strictly_under (fin true m e) (inf _) p q h = elim q [ ]
 
 pub lt→under : (x y : Float) → T (finite x) → T (finite y) → T (lt x y) → under x y
 lt→under x y p q h = le_of_lt (lt→strictly_under x y p q h)
@@ -51,6 +57,12 @@ eq→under (fin false m e) (fin true n d) p q h =
     let l = eqb→eq a 0 (and_r (eqb a b) (eqb a 0) h) in
     omega arith
 eq→under (fin false m e) (fin false n d) p q h = let k = same_size (m * up e * down d) (n * up d * down e) true h in omega arith
+eq→under nan y p q h = elim p [ ]
+eq→under (inf _) y p q h = elim p [ ]
+eq→under (fin false m e) nan p q h = elim q [ ]
+eq→under (fin false m e) (inf _) p q h = elim q [ ]
+eq→under (fin true m e) nan p q h = elim q [ ]
+eq→under (fin true m e) (inf _) p q h = elim q [ ]
 
 pub le→under : (x y : Float) → T (finite x) → T (finite y) → T (le x y) → under x y
 unfolding le
@@ -71,6 +83,8 @@ under-total x y = le_or_ge (plus x * den y + less y * den x) (plus y * den x + l
 
 pub den_pos : (x : Float) → T (finite x) → 0 < den x
 den_pos (fin s m e) p = down_pos e
+den_pos nan p = elim p [ ]
+den_pos (inf _) p = elim p [ ]
 
 -- ---- a value between q and p is no further from q than p is
 -- `c` is between `q` and `p`, or is `q`

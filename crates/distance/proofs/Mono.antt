@@ -49,6 +49,7 @@ or_split false b t = inr t
 
 pub or_l : (a b : Bool) → T a → T (a || b)
 or_l true b t = tt
+or_l false b t = elim t [ ]
 
 pub or_r : (a b : Bool) → T b → T (a || b)
 or_r true b t = tt
@@ -66,12 +67,18 @@ pub le-top : (x : Float) → T (nonneg x) → T (le x (inf false))
 unfolding le
 le-top (inf false) p = tt
 le-top (fin false m e) p = tt
+le-top nan p = elim p [ ]
+le-top (inf true) p = elim p [ ]
+le-top (fin true m e) p = elim p [ ]
 
 -- ---- squares
 pub sq-nonneg : (x : Float) → T (nonneg x) → T (nonneg (sq x))
 unfolding sq mul
 sq-nonneg (inf false) p = tt
 sq-nonneg (fin false m e) p = round-nonneg binary64 (m * up e * (m * up e)) (down e * down e)
+sq-nonneg nan p = elim p [ ]
+sq-nonneg (inf true) p = elim p [ ]
+sq-nonneg (fin true m e) p = elim p [ ]
 
 -- a / b ≤ c / d, so their squares
 squares : (a b c d : ℕ) → a * d ≤ c * b → a * a * (d * d) ≤ c * c * (b * b)
@@ -91,6 +98,15 @@ sq_mono (fin false m e) (fin false n d) p q h =
     round_mono binary64 (a * a) (down e * down e) (b * b) (down d * down d)
     (mul-pos (down_pos e) (down_pos e)) (mul-pos (down_pos d) (down_pos d))
     (squares a (down e) b (down d) (to_le (a * down d) (b * down e) h))
+sq_mono nan y p q h = elim p [ ]
+sq_mono (inf false) nan p q h = elim q [ ]
+sq_mono (inf false) (inf true) p q h = elim q [ ]
+sq_mono (inf false) (fin true n d) p q h = elim q [ ]
+sq_mono (inf true) y p q h = elim p [ ]
+sq_mono (fin false m e) nan p q h = elim q [ ]
+sq_mono (fin false m e) (inf true) p q h = elim q [ ]
+sq_mono (fin false m e) (fin true n d) p q h = elim q [ ]
+sq_mono (fin true m e) y p q h = elim p [ ]
 
 -- ---- sums
 pub add-nonneg : (x y : Float) → T (nonneg x) → T (nonneg y) → T (nonneg (add binary64 x y))
@@ -99,6 +115,15 @@ add-nonneg (inf false) (inf false) p q = tt
 add-nonneg (inf false) (fin false n d) p q = tt
 add-nonneg (fin false m e) (inf false) p q = tt
 add-nonneg (fin false m e) (fin false n d) p q = round-nonneg binary64 (m * up e * down d + n * up d * down e) (down e * down d)
+add-nonneg nan y p q = elim p [ ]
+add-nonneg (inf false) nan p q = elim q [ ]
+add-nonneg (inf false) (inf true) p q = elim q [ ]
+add-nonneg (inf false) (fin true n d) p q = elim q [ ]
+add-nonneg (inf true) y p q = elim p [ ]
+add-nonneg (fin false m e) nan p q = elim q [ ]
+add-nonneg (fin false m e) (inf true) p q = elim q [ ]
+add-nonneg (fin false m e) (fin true n d) p q = elim q [ ]
+add-nonneg (fin true m e) y p q = elim p [ ]
 
 -- a / b ≤ c / d and p / q ≤ r / s, so their sums
 sums : (a b c d p q r s : ℕ) → a * d ≤ c * b → p * s ≤ r * q → (a * q + p * b) * (d * s) ≤ (c * s + r * d) * (b * q)
@@ -129,6 +154,28 @@ add_mono (fin false m e) (fin false n d) (fin false m' e') (fin false n' d') p q
     (mul-pos (down_pos e) (down_pos d)) (mul-pos (down_pos e') (down_pos d'))
     (sums a (down e) a' (down e') b (down d) b' (down d')
     (to_le (a * down e') (a' * down e) h) (to_le (b * down d') (b' * down d) k))
+add_mono nan y _ y' p q p' q' h k = elim p [ ]
+add_mono (inf false) y nan y' p q p' q' h k = elim p' [ ]
+add_mono (inf false) y (inf false) nan p q p' q' h k = elim q' [ ]
+add_mono (inf false) y (inf false) (inf true) p q p' q' h k = elim q' [ ]
+add_mono (inf false) y (inf false) (fin true n' d') p q p' q' h k = elim q' [ ]
+add_mono (inf false) y (inf true) y' p q p' q' h k = elim p' [ ]
+add_mono (inf false) y (fin true m' e') y' p q p' q' h k = elim p' [ ]
+add_mono (inf true) y _ y' p q p' q' h k = elim p [ ]
+add_mono (fin false m e) y nan y' p q p' q' h k = elim p' [ ]
+add_mono (fin false m e) y (inf false) nan p q p' q' h k = elim q' [ ]
+add_mono (fin false m e) y (inf false) (inf true) p q p' q' h k = elim q' [ ]
+add_mono (fin false m e) y (inf false) (fin true n' d') p q p' q' h k = elim q' [ ]
+add_mono (fin false m e) y (inf true) y' p q p' q' h k = elim p' [ ]
+add_mono (fin false m e) y (fin false m' e') nan p q p' q' h k = elim q' [ ]
+add_mono (fin false m e) y (fin false m' e') (inf true) p q p' q' h k = elim q' [ ]
+add_mono (fin false m e) nan (fin false m' e') (fin _ n' d') p q p' q' h k = elim q [ ]
+add_mono (fin false m e) (inf false) (fin false m' e') (fin true n' d') p q p' q' h k = elim q' [ ]
+add_mono (fin false m e) (inf true) (fin false m' e') (fin _ n' d') p q p' q' h k = elim q [ ]
+add_mono (fin false m e) (fin false n d) (fin false m' e') (fin true n' d') p q p' q' h k = elim q' [ ]
+add_mono (fin false m e) (fin true n d) (fin false m' e') (fin _ n' d') p q p' q' h k = elim q [ ]
+add_mono (fin false m e) y (fin true m' e') y' p q p' q' h k = elim p' [ ]
+add_mono (fin true m e) y _ y' p q p' q' h k = elim p [ ]
 
 -- ---- the squared distance is not negative
 pub sq-sub-nonneg : (x y : Float) → T (finite x) → T (finite y) → T (nonneg (leg x y))

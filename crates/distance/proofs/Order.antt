@@ -28,11 +28,14 @@ plain (fin s m e) = not (s && eqb m 0)
 pub nonneg-plain : (x : Float) → T (nonneg x) → T (plain x)
 nonneg-plain (inf s) p = tt
 nonneg-plain (fin false m e) p = tt
+nonneg-plain nan p = elim p [ ]
+nonneg-plain (fin true m e) p = elim p [ ]
 
 pub plain-no-nan : (x : Float) → T (plain x) → T (not (is_nan x))
 unfolding is_nan
 plain-no-nan (inf s) p = tt
 plain-no-nan (fin s m e) p = tt
+plain-no-nan nan p = elim p [ ]
 
 pub nonneg-no-nan : (x : Float) → T (nonneg x) → T (not (is_nan x))
 nonneg-no-nan x p = plain-no-nan x (nonneg-plain x p)
@@ -40,6 +43,8 @@ nonneg-no-nan x p = plain-no-nan x (nonneg-plain x p)
 pub finite-no-nan : (x : Float) → T (finite x) → T (not (is_nan x))
 unfolding is_nan
 finite-no-nan (fin s m e) p = tt
+finite-no-nan nan p = elim p [ ]
+finite-no-nan (inf _) p = elim p [ ]
 
 -- ---- two finite values: from whole numbers back to `lt`, `eq` and `le`
 strictly_under→lt : (x y : Float) → T (finite x) → T (finite y) → strictly_under x y → T (lt x y)
@@ -48,6 +53,12 @@ strictly_under→lt (fin true m e) (fin true n d) p q h = lt→ltb (n * up d * d
 strictly_under→lt (fin true m e) (fin false n d) p q h = lt→ltb 0 (m * up e * down d + n * up d * down e) (omega arith)
 strictly_under→lt (fin false m e) (fin true n d) p q h = let k : ◌≡◌ {A = ℕ} 0 1 = omega arith in omega arith
 strictly_under→lt (fin false m e) (fin false n d) p q h = lt→ltb (m * up e * down d) (n * up d * down e) (omega arith)
+strictly_under→lt nan y p q h = elim p [ ]
+strictly_under→lt (inf _) y p q h = elim p [ ]
+strictly_under→lt (fin false m e) nan p q h = elim q [ ]
+strictly_under→lt (fin false m e) (inf _) p q h = elim q [ ]
+strictly_under→lt (fin true m e) nan p q h = elim q [ ]
+strictly_under→lt (fin true m e) (inf _) p q h = elim q [ ]
 
 to-eqb : (a b : ℕ) → a ≡ b → T (eqb a b)
 to-eqb a b p = eq→eqb p
@@ -64,6 +75,12 @@ same→eq (fin true m e) (fin true n d) p q h = like_signs (m * up e * down d) (
 same→eq (fin true m e) (fin false n d) p q h = unlike_signs (m * up e * down d) (n * up d * down e) (omega arith) (omega arith)
 same→eq (fin false m e) (fin true n d) p q h = unlike_signs (m * up e * down d) (n * up d * down e) (omega arith) (omega arith)
 same→eq (fin false m e) (fin false n d) p q h = like_signs (m * up e * down d) (n * up d * down e) (omega arith)
+same→eq nan y p q h = elim p [ ]
+same→eq (inf _) y p q h = elim p [ ]
+same→eq (fin false m e) nan p q h = elim q [ ]
+same→eq (fin false m e) (inf _) p q h = elim q [ ]
+same→eq (fin true m e) nan p q h = elim q [ ]
+same→eq (fin true m e) (inf _) p q h = elim q [ ]
 
 under→le : (x y : Float) → T (finite x) → T (finite y) → under x y → T (le x y)
 unfolding le
@@ -87,6 +104,10 @@ le_total (fin s m e) (fin t n d) p q = elim (under-total (fin s m e) (fin t n d)
   | inl h ↦ inl (under→le (fin s m e) (fin t n d) tt tt h)
   | inr h ↦ inr (under→le (fin t n d) (fin s m e) tt tt h)
 ]
+le_total nan y p q = elim p [ ]
+le_total (inf false) nan p q = elim q [ ]
+le_total (inf true) nan p q = elim q [ ]
+le_total (fin s m e) nan p q = elim q [ ]
 
 -- ---- transitive
 chain : (a a' d b b' e c c' g : ℕ) → 0 < e → a * e + b' * d ≤ b * d + a' * e → b * g + c' * e ≤ c * e + b' * g
@@ -155,6 +176,10 @@ lt-is_not_le (fin s m e) (fin t n d) p q =
     let x = fin s m e in
     let y = fin t n d in
     bool_not (lt x y) (le y x) (clash x y tt tt) (strict x y tt tt)
+lt-is_not_le nan y p q = elim p [ ]
+lt-is_not_le (inf false) nan p q = elim q [ ]
+lt-is_not_le (inf true) nan p q = elim q [ ]
+lt-is_not_le (fin s m e) nan p q = elim q [ ]
 
 -- ---- antisymmetric: equal sizes have equal bits
 pub same_bits : (f : Format) (s : Bool) (m n : ℕ) (e d : ℤ) → m * up e * down d ≡ n * up d * down e
@@ -195,3 +220,7 @@ le_antisym f (fin false m e) (fin false n d) X Y p q h k =
     let a = le→under (fin false m e) (fin false n d) tt tt h in
     let b = le→under (fin false n d) (fin false m e) tt tt k in
     bits_inj f (fin false m e) (fin false n d) X Y (same_bits f false m n e d (omega arith))
+le_antisym f nan y X Y p q h k = elim p [ ]
+le_antisym f (inf false) nan X Y p q h k = elim q [ ]
+le_antisym f (inf true) nan X Y p q h k = elim q [ ]
+le_antisym f (fin s m e) nan X Y p q h k = elim q [ ]

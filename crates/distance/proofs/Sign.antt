@@ -118,3 +118,7 @@ unfolding sub
 sq-sub (fin s m e) (fin t n d) p q =
     sq-sum s (m * up e * down d) (not t) (n * up d * down e) (down e * down d)
     ∙ ap (λ (z : ℕ). sq_of z (down e * down d)) (gap_is s t m n e d)
+sq-sub nan y p q = elim p [ ]
+sq-sub (inf _) y p q = elim p [ ]
+sq-sub (fin s m e) nan p q = elim q [ ]
+sq-sub (fin s m e) (inf _) p q = elim q [ ]

@@ -194,6 +194,12 @@ key-lt (fin false m e) (fin false n d) X Y p q h =
     let smaller = ltb→lt (m * up e * down d) (n * up d * down e) h in
     pos-pos (size_bits binary64 m e) (size_bits binary64 n d) (key (fin false m e)) (key (fin false n d))
     (size_bits_mono binary64 m n e d p q smaller) (key-pos m e p) (key-pos n d q)
+key-lt nan y X Y p q h = elim X [ ]
+key-lt (inf _) y X Y p q h = elim X [ ]
+key-lt (fin false m e) nan X Y p q h = elim Y [ ]
+key-lt (fin false m e) (inf _) X Y p q h = elim Y [ ]
+key-lt (fin true m e) nan X Y p q h = elim Y [ ]
+key-lt (fin true m e) (inf _) X Y p q h = elim Y [ ]
 
 -- what is finite has a pattern below that of infinity
 num-le : (f : Format) (s : Bool) (m : ℕ) (e : ℤ) → T (fits f (fin s m e)) → m * up e ≤ 2 ^ suc (emax f) * down e

@@ -12,6 +12,8 @@
 //
 // For a query at (-2, 4) and the box from (1, 3) to (2, 5): the bound is 9, by the place (1, 4), and the corner is 17,
 // by (2, 5). `distance_examples` runs this and the numbers at the edge of the format.
+#![tactic(auto)]
+
 ghost use Rattle.std.specs.Prelude.{◌≡◌, not, T};
 ghost use Rattle.std.specs.Float.Ieee.{is_nan};
 ghost use Rattle.std.specs.Float.Ieee.Scale.{finite};
@@ -19,14 +21,14 @@ ghost use Rattle.distance.specs.Distance.{d2, clamp, far, bound, corner, centre}
 ghost use Rattle.distance.specs.TotalOrder.{key};
 
 // A place: a point of the map, or where a query stands.
-#[derive(Drop)]
+#[derive(Clone, Copy)]
 pub struct Coord {
     pub x: f64,
     pub y: f64,
 }
 
 // What a node says of the points under it: their centre, and the box that they lie in.
-#[derive(Drop)]
+#[derive(Clone, Copy)]
 pub struct Bounds {
     pub cx: f64,
     pub cy: f64,

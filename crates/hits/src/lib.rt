@@ -1,5 +1,7 @@
 // The thin entry over the radius query: its hits as a slice of records, index and distance side by side, beside the two
 // slices that the query fills. A slice of records that is written is proved by hand, so two functions alone take one.
+#![tactic(auto)]
+
 ghost use Rattle.std.specs.Prelude.{◌≡◌};
 ghost use Rattle.tree.specs.Accepted.{tree};
 ghost use Rattle.radius.specs.Within.{place, reply};

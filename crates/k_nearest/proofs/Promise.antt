@@ -82,9 +82,11 @@ probing_fair t = record { stays = λ s i o h. tt; swaps = λ s i j o h m. refl; 
 
 ends-got : {S : Type 0} (g : S) (w : Walk S) → Ends g w → outcome w ≡ got g
 ends-got g (done s n d) h = ap got h
+ends-got {S = S} g damage h = elim h [ ]
 
 ended_found : (k : ℕ) (g : List Best) (w : Walk (List Best)) → 0 < k → Ended k g w → found (outcome w) ≡ hits g
 ended_found k g (done s n d) o I = ap hits (tied_sorted k s g o I)
+ended_found k g damage o I = elim I [ ]
 
 no-refusal : (points : List Float) (q : Coord) → ltb 0 (refusal points q) ≡ false → (size points ≤ limit) × T (finite q.x) × T (finite q.y)
 no-refusal points q h = go (eqb (length points % 2) 1) (ltb limit (size points)) refl (finite q.x) (finite q.y) h

@@ -125,6 +125,8 @@ Ended k g (done s n d) = Tied k s g
 join : (k : ℕ) (g : List Best) (w u : Walk (List Best)) → Alike (Tied k) w u → Ends g u → Ended k g w
 join k g damage damage a e = e
 join k g (done s n d) (done z m f) a e = subst (λ (l : List Best). Tied k s l) e a
+join k g damage (done z m f) a e = elim a [ ]
+join k g (done s n d) damage a e = elim a [ ]
 
 pub knn_ends : (k : ℕ) (t : Tree) (q : Coord) → Accepted t → Grown t → T (finite q.x) → T (finite q.y) → 0 < k → Ended k (plain (keep k t.points q) [] (count t)) (walk_all t (holding k t.points q) [])
 knn_ends k t q A G QX QY o =

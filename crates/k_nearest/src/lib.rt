@@ -9,6 +9,8 @@
 //
 //     nearest_neighbours(&points, &indices, &boxes, &links, 0.0, 4.0, 3, &mut near, &mut distances)
 //     over (0,0) (3,4) (6,8) (-3,4): Hits(3), with 1, 3, 0 at 3, 3, 4
+#![tactic(auto)]
+
 ghost use Rattle.std.specs.Prelude.{◌≡◌, true, [], ◌+◌, ◌*◌, ◌^◌, ◌<◌, ◌≤◌, min, length, get_or};
 ghost use Rattle.std.specs.Float.{nan};
 ghost use Rattle.distance.specs.Distance.{bound};

@@ -189,6 +189,7 @@ module _ (near : ℕ → ℕ → Bool) (n m : ℕ) (comm : (i j : ℕ) → near 
 
   pick : (b : Bool) (x y : ℕ) → T b → cond b x y ≡ x
   pick true x y t = refl
+  pick false x y t = elim t [ ]
 
   core_at : (i : ℕ) → Core near n m i → get_or (labels_of near n m) i noise ≡ number near n m i
   unfolding label_of

@@ -54,6 +54,7 @@ hits_complete p (suc k) j o v = elim (eq-or-lt_of_le (le_of_suc-le-suc o)) [
   where
     last : (b : Bool) → T b → j ≡ k → Memᴰ j (cond b (k ∷ []) [])
     last true t e = Memᴰ.head e
+    last false t e = elim t [ ]
 
 mem-at : (l : List ℕ) (x d : ℕ) → x < length l → Memᴰ (get_or l x d) l
 mem-at [] x d o = absurd (not-suc-le-zero o)

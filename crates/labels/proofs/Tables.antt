@@ -64,6 +64,7 @@ tally p (suc k) = tally p k + cond (p k) 1 0
 
 one : (b : Bool) → T b → ◌≡◌ {A = ℕ} (cond b 1 0) 1
 one true t = refl
+one false t = elim t [ ]
 
 pub tally-le : (p : ℕ → Bool) (k : ℕ) → tally p k ≤ k
 unfolding tally

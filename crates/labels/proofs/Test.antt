@@ -52,6 +52,7 @@ any_at p (suc k) h = go (or_split (any p k) (p k) h) (any_at p k)
     go : T (any p k) ⊎ T (p k) → (T (any p k) → (i : ℕ) × (i < k) × T (p i)) → (i : ℕ) × (i < suc k) × T (p i)
     go (inl a) r = let w = r a in (w.0, omega arith, w.2)
     go (inr b) r = (k, omega arith, b)
+any_at p zero h = elim h [ ]
 
 pub any_of : (p : ℕ → Bool) (k i : ℕ) → i < k → T (p i) → T (any p k)
 unfolding any
@@ -160,6 +161,7 @@ module _ (near : ℕ → ℕ → Bool) (n m : ℕ) where
       where
         below : (b : Bool) → T b → c < cond b (get_or labels i noise) 0
         below true x = l
+        below false x = elim x [ ]
 
     edge : (i : ℕ) → i < n → (Core near n m i → ⊥) → Border near n m labels i
     unfolding borders beside

@@ -1,34 +1,41 @@
 // Labels of small maps, a line each: the map's name, its labels with `-` for noise, and after `|` the entry past them, which
 // was 9 before and stays; or `E` with the number and the detail of a refusal. What they must be was worked out by hand.
+#![tactic(auto)]
+
 use dbscan::Labelling;
 use labels::NOISE;
+use std::io;
 
-fn say(label: u32) {
+fn say(rt: &impl Print, label: u32) -> io::Result<()> {
     if label == NOISE {
-        io::write_all(1, b" -");
-        return;
+        print!(rt; " -")
+    } else {
+        print!(rt; " {label}")
     }
-    io::write_all(1, b" ");
-    io::print_decimal(1, label as u64);
 }
 
 // The first n entries, and the one past them.
-fn say_all(labels: &[u32], n: usize) {
-    let mut i: usize = 0;
-    while i < n {
-        if i >= labels.len() {
-            return;
-        }
-        say(labels[i]);
-        i += 1;
+fn say_all(rt: &impl Print, labels: &[u32], n: usize) -> io::Result<()> {
+    for label in labels.iter().take(n) {
+        say(rt, *label)?;
     }
-    io::write_all(1, b" |");
-    if i < labels.len() {
-        say(labels[i]);
+    if n > labels.len() {
+        return Ok(());
     }
+    print!(rt; " |")?;
+    if n < labels.len() {
+        say(rt, labels[n])?;
+    }
+    Ok(())
 }
 
-fn run(name: &[u8], points: &[f64], epsilon: f64, min_samples: u32) {
+fn run(
+    rt: &impl Print,
+    name: &str,
+    points: &[f64],
+    epsilon: f64,
+    min_samples: u32,
+) -> io::Result<()> {
     let mut indices = [9u32; 40];
     let mut boxes = [9.0; 60];
     let mut links = [9u32; 40];
@@ -44,106 +51,119 @@ fn run(name: &[u8], points: &[f64], epsilon: f64, min_samples: u32) {
         &mut labels,
         &mut work,
     );
-    io::write_all(1, name);
+    print!(rt; "{name}")?;
     match answer {
-        Labelling::Labelled => {
-            say_all(&labels, points.len() / 2);
-        }
+        Labelling::Labelled => say_all(rt, &labels, points.len() / 2)?,
         Labelling::Refused(number, detail) => {
-            io::write_all(1, b" E");
-            say(number);
-            say(detail);
+            print!(rt; " E")?;
+            say(rt, number)?;
+            say(rt, detail)?;
         }
     }
-    io::write_all(1, b"\n");
+    println!(rt; "")
 }
 
 // The examples of the scope.
-fn examples() {
+fn examples(rt: &impl Print) -> io::Result<()> {
     run(
-        b"two triples",
+        rt,
+        "two triples",
         &[
             0.0, 0.0, 1.0, 0.0, 0.0, 1.0, 10.0, 10.0, 11.0, 10.0, 10.0, 11.0,
         ],
         2.0,
         2,
-    );
+    )?;
     run(
-        b"one far off",
+        rt,
+        "one far off",
         &[0.0, 0.0, 1.0, 0.0, 0.0, 1.0, 100.0, 100.0],
         2.0,
         2,
-    );
+    )?;
     run(
-        b"one between, first",
+        rt,
+        "one between, first",
         &[
             0.0, 0.0, 1.0, 0.0, 1.5, 0.0, 2.0, 0.0, -1.0, 0.0, -1.5, 0.0, -2.0, 0.0,
         ],
         1.0,
         4,
-    );
+    )?;
+    Ok(())
 }
 
 // A point that two cores claim has the lower label, wherever it stands.
-fn borders() {
+fn borders(rt: &impl Print) -> io::Result<()> {
     run(
-        b"one between, last",
+        rt,
+        "one between, last",
         &[
             1.0, 0.0, 1.5, 0.0, 2.0, 0.0, -1.0, 0.0, -1.5, 0.0, -2.0, 0.0, 0.0, 0.0,
         ],
         1.0,
         4,
-    );
+    )?;
     run(
-        b"one between, turned",
+        rt,
+        "one between, turned",
         &[
             0.0, 0.0, -1.0, 0.0, -1.5, 0.0, -2.0, 0.0, 1.0, 0.0, 1.5, 0.0, 2.0, 0.0,
         ],
         1.0,
         4,
-    );
+    )?;
+    Ok(())
 }
 
 // Two lines of 18 points, a pitch of 1 apart: point by point in turn, and one after the other with a gap of 10. The tree has
 // seven nodes.
-fn lines() {
+fn lines(rt: &impl Print) -> io::Result<()> {
     let mut turns = [0.0; 72];
     let mut gap = [0.0; 72];
-    let mut i: u32 = 0;
-    while i < 36 {
+    for i in 0..36u32 {
         let x = 2 * i as usize;
         turns[x] = (i / 2 + 100 * (i % 2)) as f64;
         gap[x] = (i + 10 * (i / 18)) as f64;
-        i += 1;
     }
-    run(b"in turn", &turns, 1.0, 3);
-    run(b"with a gap", &gap, 1.0, 3);
-    run(b"too far apart", &gap, 0.5, 2);
-    run(b"each alone", &gap, -0.0, 1);
+    run(rt, "in turn", &turns, 1.0, 3)?;
+    run(rt, "with a gap", &gap, 1.0, 3)?;
+    run(rt, "too far apart", &gap, 0.5, 2)?;
+    run(rt, "each alone", &gap, -0.0, 1)?;
+    Ok(())
 }
 
-fn edges() {
-    run(b"two at one place", &[5.0, 5.0, 5.0, 5.0, 6.0, 5.0], 0.0, 2);
-    run(b"no samples", &[0.0, 0.0, 0.0, 0.0], 1.0, 0);
-    run(b"as many samples", &[0.0, 0.0, 0.0, 0.0], 1.0, 2);
-    run(b"more samples", &[0.0, 0.0, 0.0, 0.0], 1.0, 3);
-    run(b"no points", &[], 1.0, 1);
-    run(b"odd", &[0.0, 0.0, 0.0], -1.0, 2);
+fn edges(rt: &impl Print) -> io::Result<()> {
     run(
-        b"not finite",
+        rt,
+        "two at one place",
+        &[5.0, 5.0, 5.0, 5.0, 6.0, 5.0],
+        0.0,
+        2,
+    )?;
+    run(rt, "no samples", &[0.0, 0.0, 0.0, 0.0], 1.0, 0)?;
+    run(rt, "as many samples", &[0.0, 0.0, 0.0, 0.0], 1.0, 2)?;
+    run(rt, "more samples", &[0.0, 0.0, 0.0, 0.0], 1.0, 3)?;
+    run(rt, "no points", &[], 1.0, 1)?;
+    run(rt, "odd", &[0.0, 0.0, 0.0], -1.0, 2)?;
+    run(
+        rt,
+        "not finite",
         &[0.0, 0.0, 1.0, 1.0 / 0.0, 0.0 / 0.0, 0.0],
         -1.0,
         2,
-    );
-    run(b"below zero", &[0.0, 0.0], -1.0, 1);
-    run(b"not a number", &[0.0, 0.0], 0.0 / 0.0, 1);
-    run(b"no room", &[0.0; 82], 1.0, 1);
-    run(b"below zero, no room", &[0.0; 82], -1.0, 1);
+    )?;
+    run(rt, "below zero", &[0.0, 0.0], -1.0, 1)?;
+    run(rt, "not a number", &[0.0, 0.0], 0.0 / 0.0, 1)?;
+    run(rt, "no room", &[0.0; 82], 1.0, 1)?;
+    run(rt, "below zero, no room", &[0.0; 82], -1.0, 1)?;
+    Ok(())
 }
 
-fn main() {
-    examples();
-    borders();
-    lines();
-    edges();
+fn main(rt: HostRuntime) -> io::Result<()> {
+    examples(&rt)?;
+    borders(&rt)?;
+    lines(&rt)?;
+    edges(&rt)?;
+    Ok(())
 }

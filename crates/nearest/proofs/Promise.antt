@@ -40,6 +40,7 @@ use Rattle.nearest.proofs.Least.{nearest_fair, none-good, none_last, Least, leas
 
 ends-answer : (g : Best) (w : Walk Best) → Ends g w → answer w ≡ hit g
 ends-answer g (done s n d) h = ap hit h
+ends-answer g damage h = elim h [ ]
 
 both : (a b : Bool) → (a && b) ≡ true → T a × T b
 both true true e = (tt, tt)

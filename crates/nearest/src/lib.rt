@@ -1,6 +1,8 @@
 // The nearest point to a place: the least squared distance, and of two as near the lower index. The walk visits the
 // nearer child first and passes over a node only where its bound is above the best so far, never where it is equal:
 // a point of the same distance and a lower index may be below it.
+#![tactic(auto)]
+
 ghost use Rattle.std.specs.Prelude.{◌≡◌, true, ◌+◌, ◌*◌, ◌<◌, ◌≤◌, length};
 ghost use Rattle.std.specs.Float.Ieee.{lt};
 ghost use Rattle.distance.specs.Distance.{bound};

@@ -1,4 +1,6 @@
 // Words of text, of 16 upper-case hex digits each, as numbers and as floats: what the programs that replay recorded lists read.
+#![tactic(auto)]
+
 ghost use Rattle.std.specs.Prelude.{◌≡◌};
 ghost use Rattle.std.specs.Float.{binary64};
 ghost use Rattle.std.specs.Float.Ieee.{of_bits};

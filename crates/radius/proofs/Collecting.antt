@@ -103,6 +103,8 @@ Meets room out (got h) (got z) = Tied room out h z
 alike_meets : (room : ℕ) (out : List ℕ) (w : Walk Held) (u : Walk (List ℕ)) → Alike (Tied room out) w u → Meets room out (outcome w) (outcome u)
 alike_meets room out damage damage h = tt
 alike_meets room out (done s n d) (done z m e) h = h
+alike_meets room out damage (done z m e) h = elim h [ ]
+alike_meets room out (done s n d) damage h = elim h [ ]
 
 walk_meets : (t : Tree) (q : Coord) (r2 : Float) (room : ℕ) (out : List ℕ) → room ≤ length out
     → (g : Got Held) → g ≡ outcome (walk_all t (keeping room t.points q r2) (held 0 out)) → Meets room out g (outcome (walk_all t (within t.points q r2) []))
@@ -142,6 +144,8 @@ zeros-same l m e = ap (λ (n : ℕ). replicate n 0) e
 meets_damage : (room : ℕ) (out : List ℕ) (g : Got Held) (u : Got (List ℕ)) → Meets room out g u → g ≡ broken → u ≡ broken
 meets_damage room out broken broken h e = refl
 meets_damage room out (got x) (got z) h e = let w : ◌≡◌ {A = ℕ} 0 1 = cc in absurd (omega arith)
+meets_damage room out broken (got z) h e = elim h [ ]
+meets_damage room out (got x) broken h e = elim h [ ]
 
 -- a first walk, without room, and then
 module _ (is₀ : List ℕ) (g : Got Held) (u : Got (List ℕ)) (F : Meets 0 is₀ g u) (c : ℕ) (is₁ : List ℕ) (first : g ≡ got (held c is₁)) where
@@ -160,6 +164,7 @@ module _ (is₀ : List ℕ) (g : Got Held) (u : Got (List ℕ)) (F : Meets 0 is�
     where
       go : (u : Got (List ℕ)) → Meets 0 is₀ (got (held c is₁)) u → is₁ ≡ is₀
       go (got z) m = m.past
+      go broken m = elim m [ ]
 
   -- there is not room for all
   answered-short : (room : ℕ) → room < c → Answered (reply_of u) room is₀ (Refused 8 c) is₁
@@ -169,6 +174,7 @@ module _ (is₀ : List ℕ) (g : Got Held) (u : Got (List ℕ)) (F : Meets 0 is�
       go (got z) m =
           let e : c ≡ length z = m.counted ∙ sym (sort-length m.order) ∙ ap length m.sorted in
           finds-short z is₀ is₁ room c e h m.past
+      go broken m = elim m [ ]
 
   -- there is: the second walk, and the sort
   module _ (room : ℕ) (fits : c ≤ room) (inside : room ≤ length is₀) (g' : Got Held) (M : Meets c is₁ g' u) (n : ℕ) (is₂ : List ℕ) (second : g' ≡ got (held n is₂)) where
@@ -180,6 +186,7 @@ module _ (is₀ : List ℕ) (g : Got Held) (u : Got (List ℕ)) (F : Meets 0 is�
       where
         go : (u : Got (List ℕ)) → Meets 0 is₀ (got (held c is₁)) u → Meets c is₁ (got (held n is₂)) u → n ≡ c
         go (got z) a b = omega (arith, a.counted, b.counted, sort-length a.order, sort-length b.order, ap length a.sorted, ap length b.sorted)
+        go broken a b = elim a [ ]
 
     answered-hits : (is₃ : List ℕ) → SortedTo n is₂ is₃ → Answered (reply_of u) room is₀ (Hits n) is₃
     answered-hits is₃ S = go u met met_again
@@ -192,6 +199,7 @@ module _ (is₀ : List ℕ) (g : Got Held) (u : Got (List ℕ)) (F : Meets 0 is�
             let all : is₃ ≡ z ++ drop (length z) is₀ =
             sym (take-append-drop n is₃) ∙ ap (λ (x : List ℕ). x ++ drop n is₃) front ∙ ap (λ (x : List ℕ). z ++ x) past ∙ ap (λ (k : ℕ). z ++ drop k is₀) e in
             finds-room z is₀ is₃ room n e (omega (arith, as_many)) all
+        go broken a b = elim a [ ]
 
 -- ---- the two walks as they are made: the first without room, the second with room for as many as the first met
 module _ (t : Tree) (q : Coord) (r2 : Float) (is₀ : List ℕ) (b : Bool) (c : ℕ) (is₁ : List ℕ) (W : kept b c is₁ ≡ outcome (walk_all t (keeping 0 t.points q r2) (held 0 is₀))) where

@@ -24,7 +24,7 @@ use Rattle.rising.specs.Sort.{insert}
 use Rattle.tree.proofs.Each.{Each, each_map, each_append}
 use Rattle.tree.proofs.Rising.{number}
 use Rattle.rising.proofs.Sorting.{insert-is, insert-rises}
-use Rattle.search.specs.Walk.{Walk, done, got, outcome, walk_all, plain}
+use Rattle.search.specs.Walk.{Walk, done, got, outcome, walk_all, plain, damage}
 use Rattle.search.specs.Order.{point}
 use Rattle.search.specs.Refusal.{refusal, Told, told}
 use Rattle.search.specs.declared.Found.{Found}
@@ -43,6 +43,7 @@ insert_comm i j l =
 
 is_true : (b : Bool) → T b → b ≡ true
 is_true true h = refl
+is_true false h = elim h [ ]
 
 module _ (t : Tree) (q : Coord) (r2 : Float) (A : Accepted t) (QX : T (finite q.x)) (QY : T (finite q.y)) (R : T (not (is_nan r2))) where
   both : (a b : Bool) (i j : ℕ) (s : List ℕ) → cond b (insert j (cond a (insert i s) s)) (cond a (insert i s) s) ≡ cond a (insert i (cond b (insert j s) s)) (cond b (insert j s) s)
@@ -165,6 +166,7 @@ module _ (t : Tree) (q : Coord) (radius : Float) (A : Accepted t) (e : refusal t
     where
       go : (w : Walk (List ℕ)) → Ends (plain (within t.points q (sq radius)).next [] (count t)) w → outcome w ≡ got (picked hit (count t))
       go (done s n d) h = ap got (h ∙ plain_picks t.points q (sq radius) (count t))
+      go damage h = elim h [ ]
 
   pub radius_is-scan : reply t q radius ≡ finds (picked hit (count t))
   radius_is-scan = by (eqb (count t) 0) refl A.tree

@@ -1,6 +1,8 @@
 // Radius search: every point within a radius of a place, by rising index, into slices that the caller lends. A first walk
 // of the tree counts the hits, so that a slice too short is refused before anything is written; a second one, the same
 // code, stores them; then they are sorted by index, and their distances worked out.
+#![tactic(auto)]
+
 ghost use Rattle.std.specs.Prelude.{◌≡◌, true, cond, ◌+◌, ◌-◌, ◌*◌, ◌<◌, ◌≤◌, min, [], eqb, length, take};
 ghost use Rattle.std.specs.Float.Ieee.{lt};
 ghost use Rattle.distance.specs.Distance.{bound};

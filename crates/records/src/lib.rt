@@ -3,6 +3,8 @@
 //     1 point (x, y)   2 nearest (x, y)   3 k-nearest (x, y, k)   4 radius (x, y, radius)   5 label (epsilon, min_samples)
 //
 // Coordinates, radius and epsilon are f64, k and min_samples u32. All other kinds are read as `Unknown`, with no body.
+#![tactic(auto)]
+
 ghost use Rattle.std.specs.Prelude.{◌≡◌, ◌+◌, ◌≤◌, length};
 ghost use Rattle.records.specs.Record.{word_at, long_at, float_at, body_of, record_at, read_at};
 

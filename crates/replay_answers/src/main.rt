@@ -1,42 +1,44 @@
 // Replays recorded answers of the original: maps under many leaf sizes, with nearest, k-nearest, radius and labels.
 // Standard input has them as text, as `oracle/run record` writes them; its head says the form. Standard output says how many
 // of each were asked, and whether all came as recorded, indices and distances bit for bit, or else the first that did not.
+#![tactic(auto)]
+
 mod answers;
 mod recorded;
 
-use libc::{STDIN_FILENO, STDOUT_FILENO};
+use std::io;
+use std::io::Read;
 
-fn say(name: &[u8], count: usize) {
-    io::write_all(STDOUT_FILENO, name);
-    io::print_decimal(STDOUT_FILENO, count as u64);
+fn say(rt: &impl Print, name: &str, count: usize) -> io::Result<()> {
+    print!(rt; "{name}{count}")
 }
 
 // The line that stands where so much of the text is left.
-fn say_line(text: &[u8], left: usize) {
+fn say_line(rt: &impl Print, text: &[u8], left: usize) -> io::Result<()> {
     if left == 0 {
-        return;
+        return Ok(());
     }
     if left > text.len() {
-        return;
+        return Ok(());
     }
     let from = text.len() - left;
     let end = recorded::next_line(text, from);
-    io::write_all(STDOUT_FILENO, &text[from..end]);
+    rt.write_all(&text[from..end])
 }
 
-fn main() {
-    let mut text = [0u8; 524288];
-    let n = io::read_full(STDIN_FILENO, &mut text);
-    let t = answers::replay(&text[..n]);
-    say(b"maps ", t.maps);
-    say(b", nearest ", t.nearest);
-    say(b", k-nearest ", t.k_nearest);
-    say(b", radius ", t.radius);
-    say(b", labels ", t.labels);
+fn main(rt: HostRuntime) -> io::Result<()> {
+    let mut text = Vec::new(rt.alloc());
+    rt.stdin().take(524_288).read_to_end(&mut text)?;
+    let t = answers::replay(text.as_slice());
+    say(&rt, "maps ", t.maps)?;
+    say(&rt, ", nearest ", t.nearest)?;
+    say(&rt, ", k-nearest ", t.k_nearest)?;
+    say(&rt, ", radius ", t.radius)?;
+    say(&rt, ", labels ", t.labels)?;
     if t.left == 0 {
-        io::write_all(STDOUT_FILENO, b": all as recorded\n");
-        return;
+        println!(rt; ": all as recorded")?;
+        return Ok(());
     }
-    io::write_all(STDOUT_FILENO, b": not as recorded, the first being\n");
-    say_line(&text[..n], t.left);
+    println!(rt; ": not as recorded, the first being")?;
+    say_line(&rt, text.as_slice(), t.left)
 }

@@ -17,6 +17,8 @@
 // 5. `root_bits` adds these digits to h * 2^52: the leading digit is the one by which the exponent's field exceeds h.
 //    The digits stay 53, as a is at most 2^54 - 2, and the root of the least float is 2^-537, so no root overflows or
 //    is subnormal.
+#![tactic(auto)]
+
 ghost use Rattle.std.specs.Prelude.{◌-◌, ◌*◌, ◌<◌, ◌≤◌};
 ghost use Rattle.root.specs.Root.{Root};
 ghost use Rattle.root.specs.Steps.{half, lead, infinity, CutRoot, Rounds, Splits, RootBits};

@@ -1,20 +1,19 @@
 // Runs IEEE vectors of the root. Standard input has them, a line each, as oracle/root_vectors.c writes them. Standard
 // output says in how many lines `root::square_root` gives what is expected, bit for bit, and the first where it does not.
+#![tactic(auto)]
+
 mod vectors;
 
-use libc::{STDIN_FILENO, STDOUT_FILENO};
+use std::io;
+use std::io::Read;
 
-fn main() {
-    let mut text = [0u8; 262144];
-    let n = io::read_full(STDIN_FILENO, &mut text);
-    let t = vectors::run_all(&text[..n]);
-    io::print_decimal(STDOUT_FILENO, t.agree as u64);
-    io::write_all(STDOUT_FILENO, b" of ");
-    io::print_decimal(STDOUT_FILENO, t.lines as u64);
-    io::write_all(STDOUT_FILENO, b" agree\n");
+fn main(rt: HostRuntime) -> io::Result<()> {
+    let mut text = Vec::new(rt.alloc());
+    rt.stdin().take(262_144).read_to_end(&mut text)?;
+    let t = vectors::run_all(text.as_slice());
+    println!(rt; "{} of {} agree", t.agree, t.lines)?;
     if t.first != 0 {
-        io::write_all(STDOUT_FILENO, b"the first that does not: line ");
-        io::print_decimal(STDOUT_FILENO, t.first as u64);
-        io::write_all(STDOUT_FILENO, b"\n");
+        println!(rt; "the first that does not: line {}", t.first)?;
     }
+    Ok(())
 }

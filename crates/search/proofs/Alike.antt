@@ -29,6 +29,8 @@ module _ {S Z : Type 0} (Rel : S → Z → Type 0) where
   more_alike : (a b : ℕ) (w : Walk S) (u : Walk Z) → Alike w u → Alike (more a b w) (more a b u)
   more_alike a b damage damage h = tt
   more_alike a b (done s n d) (done z m f) h = h
+  more_alike a b damage (done z m f) h = elim h [ ]
+  more_alike a b (done s n d) damage h = elim h [ ]
 
   then_alike : (w : Walk S) (u : Walk Z) (f : S → Walk S) (g : Z → Walk Z) → Alike w u → ((s : S) (z : Z) → Rel s z → Alike (f s) (g z)) → Alike (and_then w f) (and_then u g)
   then_alike damage damage f g h k = tt
@@ -37,6 +39,10 @@ module _ {S Z : Type 0} (Rel : S → Z → Type 0) where
       weak : (n d m e : ℕ) (w : Walk S) (u : Walk Z) → Alike w u → Alike (more n d w) (more m e u)
       weak n d m e damage damage h = tt
       weak n d m e (done s a b) (done z c f) h = h
+      weak n d m e damage (done z c f) h = elim h [ ]
+      weak n d m e (done s a b) damage h = elim h [ ]
+  then_alike damage (done z m e) f g h k = elim h [ ]
+  then_alike (done s n d) damage f g h k = elim h [ ]
 
   module _ (t : Tree) (Q : Search S) (R : Search Z) (L : Like (count t) Q R Rel) where
     scan_alike : (f : S → ℕ → S) (g : Z → ℕ → Z) (c : ℕ) → ((s : S) (z : Z) (i : ℕ) → Rel s z → i < count t → Rel (f s i) (g z i))

@@ -6,7 +6,7 @@ use mathlib.Core.Bool.{Bool, true, false, not, ◌&&◌, ◌||◌}
 use Prim.Native.Nat.{ℕ, ◌+◌, ◌*◌, ◌^◌, ◌≤◌, ◌<◌}
 use native.Mathlib.Omega.{arith}
 use lib.Dec.{T, ltb}
-use lib.Ieee.{Float, inf, fin, binary64, lt, le, eq, is_nan, fits}
+use lib.Ieee.{Float, inf, fin, binary64, lt, le, eq, is_nan, fits, nan}
 use borrow.Author.Tests.{lt-ltb, le-ltb, ltb-true, ltb-false}
 use Rattle.distance.specs.Distance.{bound}
 use lib.Ieee.Scale.{finite}
@@ -34,11 +34,13 @@ rank s = key s.d2 * 2 ^ 32 + s.index
 
 is_true : (b : Bool) → T b → b ≡ true
 is_true true h = refl
+is_true false h = elim h [ ]
 
 pub no_nan : (z : Float) → T (plain z) → T (not (is_nan z))
 unfolding is_nan
 no_nan (inf s) p = tt
 no_nan (fin s m e) p = tt
+no_nan nan p = elim p [ ]
 
 -- ---- the three cases of `before`
 less : (z w : Float) → T (lt z w) → (b : Bool) → (lt z w || (eq z w && b)) ≡ true

@@ -61,9 +61,11 @@ part-all P l a e h k f = subst (λ (z : List ℕ). Each P z) (sym (part-is l a e
 module _ {S : Type 0} where
   ends_more : (g : S) (a b : ℕ) (w : Walk S) → Ends g w → Ends g (more a b w)
   ends_more g a b (done s n d) h = h
+  ends_more g a b damage h = elim h [ ]
 
   ends-then : (g m : S) (w : Walk S) (f : S → Walk S) → Ends m w → Ends g (f m) → Ends g (and_then w f)
   ends-then g m (done s n d) f e h = ends_more g n d (f s) (subst (λ (z : S). Ends g (f z)) (sym e) h)
+  ends-then g m damage f e h = elim e [ ]
 
   scan-ends : (n : ℕ) (f : S → ℕ → S) (c : ℕ) (l : List ℕ) (s : S) → Each (λ i. i < n) l → Ends (foldl f s l) (scan n f c s l)
   scan-ends n f c [] s h = refl

@@ -1,5 +1,7 @@
 // What the three queries share: the order of two points by distance, the first tests of a query, and what a refusal by
 // damage leaves. The walk itself, and the law that over an accepted tree it answers as a plain scan, are in specs/ and proofs/.
+#![tactic(auto)]
+
 ghost use Rattle.std.specs.Prelude.{◌≡◌, cond, ◌+◌, ◌*◌, ◌≤◌, length};
 ghost use Rattle.distance.specs.Distance.{bound};
 ghost use Rattle.tree.specs.Node.{bounds};
@@ -18,7 +20,7 @@ pub struct Best {
 }
 
 // What a query that fills slices answers: how many hits it wrote, or the number and the detail of its refusal.
-#[derive(Drop)]
+#[derive(Clone, Copy)]
 pub enum Found {
     Hits(u32),
     Refused(u32, u32),

@@ -1,5 +1,7 @@
 // The loop of the program: records from standard input, lines to standard output. All that can be said of bytes is said of
 // `stream::feed`; here they are only moved, in large buffers. A record that is cut where a read ended waits at the front for the next one.
+#![tactic(auto)]
+
 ghost use Rattle.std.specs.Prelude.{◌≡◌, false, ◌-◌, ◌≤◌, length};
 ghost use Rattle.stream.specs.Feeding.{Ready};
 ghost use Rattle.serve.specs.Good.{Good, Slid};

@@ -33,6 +33,7 @@ use Rattle.stream.specs.Prints.{over, error, Near}
 unsigned-nonneg : (x : Float) → T (nonneg x) → T (unsigned x)
 unsigned-nonneg (inf s) h = h
 unsigned-nonneg (fin s m e) h = h
+unsigned-nonneg nan h = elim h [ ]
 
 pub point-unsigned : (t : Tree) (q : Coord) (i : ℕ) → Accepted t → T (finite q.x) → T (finite q.y) → i < count t → T (unsigned (point t.points q i).d2)
 point-unsigned t q i A X Y h =

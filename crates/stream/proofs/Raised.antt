@@ -37,6 +37,8 @@ module _ (ls : ℕ) (p : List Float) (indices : List ℕ) (boxes : List Float) (
     where
       go : (a b : Bool) → T a → T b → (a && b) ≡ false → ⊥
       go true true A B e = subst T e tt
+      go false b A B e = elim A [ ]
+      go true false A B e = elim B [ ]
 
   pub built : (a : Told) → Due ls p (length indices) (length boxes) (length links) a → a.built ≡ true
   built a (odd h) = absurd (omega (arith, R.even))

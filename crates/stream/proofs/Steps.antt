@@ -1,16 +1,12 @@
 -- One record taken, by its kind: what a query asks of the tree, and what it and an unknown kind leave. Assumes nothing.
 use Prim.Native.Nat.{ℕ, ◌+◌, ◌*◌, ◌≤◌}
 use mathlib.Core.Path.{◌≡◌, refl}
-use mathlib.Core.Logic.{⊎_elim}
-use mathlib.Core.List.{List, [], ◌∷◌}
+use mathlib.Core.List.{List}
 use mathlib.Core.Bool.{Bool, true, false}
 use native.Mathlib.Omega.{arith}
 use lib.ListN.{length}
 use lib.Seq.{length-take-le}
 use lib.Ieee.{Float}
-use types.Run.{OneOf}
-use denote.Enum.Declared.{tag_of}
-use Rattle.records.specs.contracts.Record.{the_type}
 use Rattle.records.specs.declared.Record.{Record}
 use Rattle.records.specs.declared.Record.TheVariants.{Point, Nearest, KNearest, Radius, Label, Unknown}
 use Rattle.tree.specs.Accepted.{tree, Accepted}
@@ -42,9 +38,6 @@ module _ {p : List Float} {n : ℕ} {i : List ℕ} {b : List Float} {l : List �
 pub plain_of : {p : List Float} {i : List ℕ} {b : List Float} {l out : List ℕ} {at : ℕ} → Asking p i b l out at → Plain p out at
 plain_of A = record { even = A.stands.even; few = A.few; all_finite = A.stands.all_finite; room = A.room }
 
-none : (k : ℕ) → (k ≡ 1 → ⊥) → (k ≡ 2 → ⊥) → (k ≡ 3 → ⊥) → (k ≡ 4 → ⊥) → OneOf (1 ∷ 2 ∷ 3 ∷ 4 ∷ []) k → ⊥
-none k a b d e = ⊎_elim a (⊎_elim b (⊎_elim d e))
-
 pub unknown_replies : {q : List Float} {out : List ℕ} {at : ℕ} {out' : List ℕ} {w : ℕ} → Put out at (error 10) out' w → Replies Unknown q out at out' w
 unknown_replies q = record { text = error 10; prints = refl; short = omega (arith, short-count 69 10); put = q }
 
@@ -54,13 +47,13 @@ pub record Still (what : Record) (q : List Float) : Type 0 where
   pub points : q ≡ after q what
   pub going : true ≡ goes what
 
-pub still : (what : Record) (q : List Float) → OneOf (1 ∷ 2 ∷ 3 ∷ 4 ∷ []) (tag_of the_type what) → Still what q
-still (Nearest x y) q h = record { query = tt; points = refl; going = refl }
-still (KNearest x y k) q h = record { query = tt; points = refl; going = refl }
-still (Radius x y r) q h = record { query = tt; points = refl; going = refl }
-still (Label e m) q h = record { query = tt; points = refl; going = refl }
-still (Point x y) q h = absurd (none 0 (λ e. omega arith) (λ e. omega arith) (λ e. omega arith) (λ e. omega arith) h)
-still Unknown q h = absurd (none 5 (λ e. omega arith) (λ e. omega arith) (λ e. omega arith) (λ e. omega arith) h)
+pub still : (what : Record) (q : List Float) → ((x y : Float) → what ≡ Point x y → ⊥) → (what ≡ Unknown → ⊥) → Still what q
+still (Nearest x y) q h u = record { query = tt; points = refl; going = refl }
+still (KNearest x y k) q h u = record { query = tt; points = refl; going = refl }
+still (Radius x y r) q h u = record { query = tt; points = refl; going = refl }
+still (Label e m) q h u = record { query = tt; points = refl; going = refl }
+still (Point x y) q h u = absurd (h x y refl)
+still Unknown q h u = absurd (u refl)
 
 module _ {p : List Float} {n : ℕ} {i : List ℕ} {b : List Float} {l : List ℕ} {fresh : Bool} (R : Ready p n i b l fresh) {out : List ℕ} {at : ℕ} {out' : List ℕ} {w : ℕ} where
   pub query_stepped : {what : Record} {i' : List ℕ} {b' : List Float} {l' : List ℕ} → Still what (so_far p n) → length i' ≡ length i → length b' ≡ length b → length l' ≡ length l

@@ -1,17 +1,13 @@
 -- The loop of `feed`: what holds at its test, and what a turn and each way out make of it. Assumes nothing.
 use Prim.Native.Nat.{ℕ, ◌+◌, ◌-◌, ◌≤◌, ◌<◌}
 use mathlib.Core.Path.{◌≡◌, refl, sym, subst, ◌∙◌}
-use mathlib.Core.Logic.{⊎_elim}
-use mathlib.Core.List.{List, [], ◌∷◌, ◌++◌}
+use mathlib.Core.List.{List, [], ◌++◌}
 use mathlib.Core.Bool.{Bool, true, false, cond}
 use native.Mathlib.Omega.{arith}
 use lib.ListN.{length, get_or}
 use lib.Dec.{ltb, leb}
 use lib.Ieee.{Float}
 use borrow.Author.Tests.{ltb-true, leb-true}
-use types.Run.{OneOf}
-use denote.Enum.Declared.{tag_of}
-use Rattle.records.specs.contracts.Read.{the_type}
 use Rattle.records.specs.Record.{read_at, record_at, body_of}
 use Rattle.records.specs.declared.Record.{Record}
 use Rattle.records.specs.declared.Read.{Read}
@@ -61,12 +57,12 @@ module _ (s : List ℕ) (from : ℕ) (p₀ : List Float) (n₀ : ℕ) (out₀ : 
     pub full : length out - w < 32768 → FedBy s from p₀ n₀ out₀ p i b l out (record { used = at; count = n; wrote = w; fresh = fresh; stop = Full })
     full h = record { text = F.text; takes = F.takes; ends = omega (arith, same_size); put = F.put; ready = F.ready; inside = F.inside; room = F.room }
 
-    pub hungry : 32768 ≤ length out - w → (x : Read) → x ≡ read_at s at → OneOf (1 ∷ 2 ∷ []) (tag_of the_type x)
+    pub hungry : 32768 ≤ length out - w → (x : Read) → x ≡ read_at s at → ((r : Record) (k : ℕ) → x ≡ Whole r k → ⊥)
         → FedBy s from p₀ n₀ out₀ p i b l out (record { used = at; count = n; wrote = w; fresh = fresh; stop = Hungry })
     hungry h x e o = record { text = F.text; takes = F.takes; ends = record { wants = subst Wants e (wants x o); room = omega (arith, same_size) }; put = F.put; ready = F.ready; inside = F.inside; room = F.room }
       where
-        wants : (x : Read) → OneOf (1 ∷ 2 ∷ []) (tag_of the_type x) → Wants x
-        wants (Whole r next) o = absurd (⊎_elim (λ k. omega arith) (λ k. omega arith) o)
+        wants : (x : Read) → ((r : Record) (k : ℕ) → x ≡ Whole r k → ⊥) → Wants x
+        wants (Whole r next) o = absurd (o r next refl)
         wants Cut o = tt
         wants End o = tt
 

@@ -4,6 +4,8 @@
 // piece of input, as far as there is room for their lines, and says where it stopped; the caller writes the lines out and comes
 // back with what was left and more. A tree of the points is built for the first query after a point came, and kept until the
 // next one comes. Whatever the pieces, they print what the whole prints.
+#![tactic(auto)]
+
 ghost use Rattle.std.specs.Prelude.{◌+◌, ◌≤◌, length};
 ghost use Rattle.tree.specs.Accepted.{tree, Accepted};
 ghost use Rattle.records.specs.declared.Record.TheVariants.{Nearest as AskNearest, KNearest as AskKNearest, Radius as AskRadius, Label as AskLabel};

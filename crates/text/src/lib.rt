@@ -1,5 +1,7 @@
 // The stream's lines, byte for byte: each function writes into a lent slice from a place on, and answers the place past what
 // it wrote. Every other byte stays as it was.
+#![tactic(auto)]
+
 ghost use Rattle.std.specs.Prelude.{◌≡◌, not, ◌+◌, ◌<◌, ◌≤◌, length, T};
 ghost use Rattle.std.specs.Float.Ieee.{is_nan};
 ghost use Rattle.text.specs.Line.{Put, glyph_of, decimal, hexes, hit_line, hit_lines, HitsFit, nearest_line, none_line, count_line, label_line, label_lines, LabelsFit};

@@ -18,15 +18,26 @@ use Rattle.tree.specs.Inner.{sound, known}
 use Rattle.tree.specs.declared.Kind.{Kind}
 use Rattle.tree.specs.declared.Kind.TheVariants.{Leaf, Branch, Damaged}
 
-pub sound_tag : (k : Kind) → OneOf (0 ∷ 1 ∷ []) (tag_of K.the_type k) → sound k ≡ true
+pub sound_tag : (k : Kind) → (k ≡ Damaged → ⊥) → sound k ≡ true
 sound_tag Leaf o = refl
 sound_tag (Branch l r) o = refl
-sound_tag Damaged o = absurd (elim o [ inl h ↦ omega arith | inr h ↦ omega arith ])
+sound_tag Damaged o = absurd (o refl)
 
 pub tag_sound : (k : Kind) → sound k ≡ true → OneOf (0 ∷ 1 ∷ []) (tag_of K.the_type k)
 tag_sound Leaf h = inl refl
 tag_sound (Branch l r) h = inr refl
 tag_sound Damaged h = let z : ◌≡◌ {A = ℕ} 0 1 = cc in absurd (omega arith)
+
+-- what a match knows past an arm, as the tags that are left
+pub undamaged : (k : Kind) → (k ≡ Damaged → ⊥) → OneOf (0 ∷ 1 ∷ []) (tag_of K.the_type k)
+undamaged Leaf h = inl refl
+undamaged (Branch l r) h = inr refl
+undamaged Damaged h = absurd (h refl)
+
+pub unbranched : (k : Kind) → ((x y : ℕ) → k ≡ Branch x y → ⊥) → OneOf (0 ∷ 2 ∷ []) (tag_of K.the_type k)
+unbranched Leaf h = inl refl
+unbranched (Branch l r) h = absurd (h l r refl)
+unbranched Damaged h = inr refl
 
 pub unsound : (k : Kind) → sound k ≡ false → k ≡ Damaged
 unsound Leaf h = let z : ◌≡◌ {A = ℕ} 0 1 = cc in absurd (omega arith)

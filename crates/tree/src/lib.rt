@@ -2,6 +2,8 @@
 // min y, max y), four numbers a node in `links` (start, end, left, right), and the points' indices. Here a node is read,
 // the indices under it are handed back, the first point that is not finite is found, and the nodes that a tree needs are
 // counted; nothing is asked of the slices, whoever made them. `kind_of` and `bounds_of` read a node that was found sound.
+#![tactic(auto)]
+
 ghost use Rattle.std.specs.Prelude.{◌≡◌, ◌+◌, ◌-◌, ◌*◌, ◌^◌, ◌<◌, ◌≤◌, length, get_or};
 ghost use Rattle.std.specs.Float.{nan};
 ghost use Rattle.tree.specs.Points.{limit, FirstBad};

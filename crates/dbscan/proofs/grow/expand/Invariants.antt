@@ -1,0 +1,13 @@
+-- `dbscan::grow::expand` meets its contract. The invariant: the cluster grows; each turn takes one point from what waits, of
+-- which there are n at most. Assumes nothing.
+use Prim.Native.Nat.{◌-◌, ◌*◌}
+use Rattle.tree.specs.Points.{size}
+use Rattle.labels.specs.Labels.{near}
+use Rattle.dbscan.specs.Growing.{Growing}
+use Rattle.dbscan.proofs.grow.expand.Given as goal
+
+abbrev pub invariant-loop-head : goal.invariant-loop-head
+invariant-loop-head l = Growing (near l.points l.epsilon) (size l.points) l.m l.i l.c l.work l.head l.tail l.labels
+
+abbrev pub decreases-loop-head : goal.decreases-loop-head
+decreases-loop-head l = 2 * size l.points - l.head

@@ -1,0 +1,53 @@
+-- `dbscan::grow::visit` meets its contract: the query leaves what waits, and then the point is passed, or claims its
+-- neighbours. Assumes nothing.
+use mathlib.Core.Path.{◌≡◌, sym, ◌∙◌}
+use mathlib.Core.List.{◌++◌}
+use native.Mathlib.Omega.{arith}
+use lib.ListN.{get_or, drop, length-take}
+use lib.Seq.{length-take-le}
+use Rattle.tree.specs.Points.{size}
+use Rattle.labels.specs.Labels.{near, Core}
+use Rattle.labels.proofs.Neighbours.{near_comm}
+use Rattle.dbscan.specs.Growing.{Growing}
+use Rattle.dbscan.proofs.Rounds.{Queried, queried, growing-moved, growing-roomy, growing-past, growing-by}
+use Rattle.dbscan.proofs.grow.visit.Goals as goal
+use Rattle.dbscan.proofs.grow.visit.Goals.{After-neighbours-count, Else-count-m}
+
+after : (c : After-neighbours-count) → Queried (near c.args.points.now c.args.epsilon) (size c.args.points.now) (get_or c.args.work.now c.args.head 0) c.neighbours-count.result c.args.work.now (c.neighbours-count.new.out ++ drop (size c.args.points.now) c.args.work.now) c.args.labels.now
+after c =
+    queried (near c.args.points.now c.args.epsilon) (size c.args.points.now) (get_or c.args.work.now c.args.head 0) c.neighbours-count.result c.args.work.now c.args.labels.now c.neighbours-count.new.out c.requires.growing.sizes c.neighbours-count.auto.out c.neighbours-count.ensures
+
+grows : (c : After-neighbours-count) → Growing (near c.args.points.now c.args.epsilon) (size c.args.points.now) c.args.m c.args.seed c.args.c (c.neighbours-count.new.out ++ drop (size c.args.points.now) c.args.work.now) c.args.head c.args.tail c.args.labels.now
+grows c = growing-moved (c.neighbours-count.new.out ++ drop (size c.args.points.now) c.args.work.now) (after c).sizes (after c).behind c.requires.growing
+
+first : (c : After-neighbours-count) → get_or (c.neighbours-count.new.out ++ drop (size c.args.points.now) c.args.work.now) c.args.head 0 ≡ (get_or c.args.work.now c.args.head 0)
+first c = (after c).behind c.args.head c.requires.growing.behind
+
+core : (c : Else-count-m) → Core (near c.args.points.now c.args.epsilon) (size c.args.points.now) c.args.m (get_or c.args.work.now c.args.head 0)
+core c =
+    record { inside = c.requires.growing.inside c.args.head (omega arith) c.requires.some; asked = c.requires.asked; many = omega (arith, c.if-count-m.false, c.neighbours-count.ensures.count) }
+
+pub overflow_cast-q : goal.overflow_cast-q
+overflow_cast-q c = omega (arith, c.type_inv.work c.args.head)
+
+pub slice_bounds-neighbours-end-2 : goal.slice_bounds-neighbours-end-2
+slice_bounds-neighbours-end-2 c = simp length-take (omega arith)
+
+pub neighbours-count-requires : goal.neighbours-count-requires
+neighbours-count-requires c =
+    record { search = c.requires.search; point = c.requires.growing.inside c.args.head (omega arith) c.requires.some; room = length-take-le _ c.args.work.now (omega (arith, c.requires.growing.sizes.work)) }
+
+pub shape_of-work-then-count-m : goal.shape_of-work-then-count-m
+shape_of-work-then-count-m c = (after (goal.at.shape_of-work-then-count-m c).After-neighbours-count).sizes.work ∙ sym c.requires.growing.sizes.work
+
+pub returns-then-count-m : goal.returns-then-count-m
+returns-then-count-m c =
+    growing-past (near c.args.points.now c.args.epsilon) (size c.args.points.now) c.args.m (get_or c.args.work.now c.args.head 0) c.neighbours-count.result (grows (goal.at.returns-then-count-m c).After-neighbours-count) c.requires.some (first (goal.at.returns-then-count-m c).After-neighbours-count) (after (goal.at.returns-then-count-m c).After-neighbours-count).filled c.if-count-m.true
+
+pub claim_all-requires : goal.claim_all-requires
+claim_all-requires c =
+    growing-roomy (near c.args.points.now c.args.epsilon) (size c.args.points.now) c.args.m (grows (goal.at.claim_all-requires c).After-neighbours-count) (after (goal.at.claim_all-requires c).After-neighbours-count).filled
+
+pub returns : goal.returns
+returns c =
+    growing-by (near c.args.points.now c.args.epsilon) (size c.args.points.now) c.args.m (near_comm c.args.points.now c.args.epsilon) (get_or c.args.work.now c.args.head 0) c.neighbours-count.result (grows (goal.at.returns c).After-neighbours-count) c.requires.some (first (goal.at.returns c).After-neighbours-count) (core (goal.at.returns c).Else-count-m) (after (goal.at.returns c).After-neighbours-count).filled c.claim_all.ensures

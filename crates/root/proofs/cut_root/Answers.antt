@@ -1,0 +1,21 @@
+-- `root::cut_root` meets its contract. The first loop leaves no g that is too large, the second none that is too small:
+-- `Squares.antt`. How good the guess is plays no part. Assumes nothing.
+use Prim.Native.Nat.{◌-◌}
+use native.Mathlib.Omega.{arith}
+use Rattle.root.proofs.Squares.{some, fits, square_above}
+use Rattle.root.proofs.cut_root.Goals as goal
+
+pub overflow_mul-square : goal.overflow_mul-square
+overflow_mul-square c = record { fits = omega (arith, fits c.args.first c.requires.1) }
+
+pub overflow_sub-g : goal.overflow_sub-g
+overflow_sub-g c = let l = c.loop-square in some c.args.a l.g (omega (arith, l.invariant.0, c.loop-square-test.true))
+
+pub overflow_mul-square-in-loop-square : goal.overflow_mul-square-in-loop-square
+overflow_mul-square-in-loop-square c = let l = c.loop-square in record { fits = omega (arith, fits (l.g - 1) (omega (arith, l.invariant.1))) }
+
+pub loop-square-smaller : goal.loop-square-smaller
+loop-square-smaller c = let l = c.loop-square in omega (arith, some c.args.a l.g (omega (arith, l.invariant.0, c.loop-square-test.true)))
+
+pub overflow_mul-g : goal.overflow_mul-g
+overflow_mul-g c = let l = c.loop-g in omega (arith, square_above l.g)
