@@ -2,6 +2,8 @@
 // and labels, recorded by `oracle/run record`, where no answer rests on a tie.
 #![tactic(auto)]
 
-fn main() {
-    serve::run();
+use std::io;
+
+fn main(rt: HostRuntime) -> io::Result<()> {
+    serve::run(&mut rt.stdin(), &mut rt.stdout())
 }

@@ -1,6 +1,8 @@
 // The station: records from standard input, lines to standard output.
 #![tactic(auto)]
 
-fn main() {
-    serve::run();
+use std::io;
+
+fn main(rt: HostRuntime) -> io::Result<()> {
+    serve::run(&mut rt.stdin(), &mut rt.stdout())
 }

@@ -1,6 +1,8 @@
 // A run of the station: a point, and then a record of kind 4 whose body is one byte short.
 #![tactic(auto)]
 
-fn main() {
-    serve::run();
+use std::io;
+
+fn main(rt: HostRuntime) -> io::Result<()> {
+    serve::run(&mut rt.stdin(), &mut rt.stdout())
 }
