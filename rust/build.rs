@@ -1,4 +1,4 @@
-//! Links the static library that `rt staticlib capi` writes: from YOLTHUGEN_LIB_DIR, or target/staticlib beside this crate's folder.
+//! Links the static library that `tools/staticlib` writes: from YOLTHUGEN_LIB_DIR, or target/staticlib beside this crate's folder.
 use std::{env, path::PathBuf, process};
 
 fn main() {
@@ -7,7 +7,7 @@ fn main() {
     let folder = env::var("YOLTHUGEN_LIB_DIR").map(PathBuf::from).unwrap_or_else(|_| here.join("../target/staticlib"));
     let archive = folder.join("libcapi.a");
     if !archive.exists() {
-        eprintln!("no {}: run `rt staticlib capi`, or set YOLTHUGEN_LIB_DIR", archive.display());
+        eprintln!("no {}: run `tools/staticlib`, or set YOLTHUGEN_LIB_DIR", archive.display());
         process::exit(1);
     }
     println!("cargo:rerun-if-changed={}", archive.display());

@@ -1,6 +1,6 @@
 /* The die nearest to each place that a camera reports, and all dies within a radius of it.
  *
- *     rt staticlib capi
+ *     tools/staticlib
  *     cc -I include examples/c/nearest.c target/staticlib/libcapi.a -o target/nearest && target/nearest
  */
 #include "yolthugen.h"

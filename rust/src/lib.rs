@@ -1,5 +1,5 @@
 //! Nearest, k-nearest and radius search over points of the plane, and density labels (DBSCAN), proved; over the static
-//! library of `rt staticlib capi`.
+//! library of `tools/staticlib`.
 //!
 //! The names are those of geo's `ball_tree` and `dbscan`, for f64. What differs: nothing panics, so what geo would answer
 //! wrongly or not at all is a [`Refusal`], and every call returns a `Result`. The answers are a plain scan's by the rounded

@@ -1,16 +1,10 @@
 -- What the check says of a node, way by way: damage where the node is damaged or a half is; else the tight box where the node's box
 -- holds it. By the two forms of a sound node. Assumes nothing.
 use mathlib.Core.Path.{◌≡◌, refl, sym, ap, ◌∙◌, subst}
-use mathlib.Core.Logic.{inl, inr}
-use mathlib.Core.List.{[], ◌∷◌}
 use mathlib.Core.Bool.{Bool, true, false, cond}
 use Prim.Native.Nat.{ℕ, ◌≤◌}
 use native.Mathlib.Omega.{arith}
 use lib.Dec.{T}
-use types.Run.{OneOf}
-use denote.Enum.Declared.{tag_of}
-use Rattle.tree.specs.contracts.Kind as K
-use Rattle.accept.specs.contracts.Part as P
 use Rattle.distance.specs.declared.Bounds.{Bounds}
 use Rattle.tree.specs.Points.{size}
 use Rattle.tree.specs.Node.{bounds, kind, mid}

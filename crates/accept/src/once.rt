@@ -18,7 +18,8 @@ pub fn each_once(indices: &[u32], n: usize) -> bool
         let w = i / 64;
         let s = i % 64;
         let old = seen[w];
-        if (old >> s) % 2 == 1 {
+        let is_seen = (old >> s) % 2 == 1;
+        if is_seen {
             return false;
         }
         seen[w] = old | (1u64 << s);

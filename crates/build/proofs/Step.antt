@@ -9,13 +9,12 @@ use native.Mathlib.Omega.{arith}
 use lib.ListN.{length, take, length-take, length-drop, drop, take-append-drop, length-append}
 use lib.Seq.{take_at, drop_at, length-take-le}
 use lib.Dec.{leb}
-use lib.Ieee.{Float, le}
+use lib.Ieee.{Float}
 use borrow.Author.Tests.{leb-true, leb-false}
-use Rattle.distance.proofs.Squares.{same}
 use Rattle.tree.proofs.Counting.{nodes-leaf, nodes-branch}
 use Rattle.tree.specs.Count.{nodes}
 use Rattle.select.proofs.Parting.{under_same, mid-all, put_back}
-use Rattle.tree.proofs.Entries.{one, same_refl, same_trans, same_append}
+use Rattle.tree.proofs.Entries.{same_refl, same_trans, same_append}
 use Rattle.select.specs.Order.{rank}
 use Rattle.tree.specs.Entries.{Same}
 use Rattle.select.specs.Parts.{Split}

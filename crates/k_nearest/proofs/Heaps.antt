@@ -3,16 +3,15 @@
 use mathlib.Core.Path.{◌≡◌, sym, ap, ◌∙◌, refl, subst}
 use mathlib.Core.List.{List}
 use mathlib.Core.Bool.{Bool, true, false}
-use Prim.Native.Nat.{ℕ, ◌≤◌, ◌<◌}
+use Prim.Native.Nat.{ℕ, ◌≤◌}
 use native.Mathlib.Nat.{le_trans, le_refl}
 use native.Mathlib.Omega.{arith}
 use lib.Dec.{ltb}
 use lib.ListN.{length, get_or}
 use lib.Seq.{get_or-take, length-take-le}
 use lib.Ieee.{Float, nan}
-use borrow.Author.Tests.{lt-ltb, le-ltb, ltb-false}
-use Rattle.tree.specs.Accepted.{Tree, count}
-use Rattle.search.specs.Walk.{Search, Got, broken, got, outcome, Walks, walk_all}
+use borrow.Author.Tests.{ltb-false}
+use Rattle.search.specs.Walk.{broken, got}
 use Rattle.search.specs.declared.Best.{Best}
 use Rattle.heap.specs.Heap.{pairs, blank}
 use Rattle.heap.proofs.Steps.{past_more}

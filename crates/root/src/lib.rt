@@ -79,7 +79,7 @@ fn cut_root(a: u64, first: u64) -> Cut
 {
     let mut g = first;
     let mut square = g * g;
-    while square > a {
+    'too_large: while square > a {
         g = g - 1;
         square = g * g;
     }
@@ -118,7 +118,8 @@ fn scale(b: u64) -> Scaled
 {
     let mut full = b % LEAD + LEAD;
     let mut e = b / LEAD + 1021;
-    if b < LEAD {
+    let is_subnormal = b < LEAD;
+    if is_subnormal {
         let z = u64::leading_zeros(b) - 11;
         full = b << z;
         e = 1022 - z as u64;
@@ -156,7 +157,8 @@ pub fn square_root(x: f64) -> f64
     if b == 0 {
         return x;
     }
-    if b == TOP {
+    let is_minus_zero = b == TOP;
+    if is_minus_zero {
         return x;
     }
     if b == INFINITY {

@@ -7,16 +7,12 @@ use mathlib.Core.Bool.{Bool, true, false, cond}
 use Prim.Native.Nat.{ℕ, zero, suc, ◌+◌, ◌-◌, ◌≤◌, ◌<◌}
 use native.Mathlib.Numerals.{add-one}
 use native.Mathlib.Omega.{arith}
-use lib.Ieee.{Float, lt}
 use lib.ListN.{length, get_or, drop, drop_of_length-le}
 use lib.Seq.{drop-cons}
 use borrow.Author.Tests.{lt-ltb, le-ltb}
 use types.Run.{OneOf}
 use denote.Enum.Declared.{tag_of}
 use Rattle.tree.specs.contracts.Kind as K
-use Rattle.distance.specs.Distance.{bound}
-use Rattle.distance.specs.declared.Bounds.{Bounds}
-use Rattle.distance.specs.declared.Coord.{Coord}
 use Rattle.tree.specs.Node.{bounds, kind, mid, part}
 use Rattle.tree.specs.Accepted.{Tree, count}
 use Rattle.tree.specs.declared.Kind.{Kind}

@@ -162,9 +162,7 @@ fn drive<R: Read, W: Write>(
     };
     let mut turns = u64::MAX;
     while turns > 0 {
-        s = turn(
-            input, points, indices, boxes, links, out, s, reader, writer,
-        )?;
+        s = turn(input, points, indices, boxes, links, out, s, reader, writer)?;
         if !s.going {
             return Ok(());
         }

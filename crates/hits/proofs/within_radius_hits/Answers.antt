@@ -3,7 +3,6 @@ use mathlib.Core.Path.{ap, ◌∙◌}
 use mathlib.Core.Bool.{Bool}
 use Prim.Native.Nat.{ℕ}
 use native.Mathlib.Omega.{arith}
-use Rattle.std.proofs.Common.{rules}
 use Rattle.tree.specs.Accepted.{tree}
 use Rattle.radius.specs.Within.{place, reply}
 use Rattle.hits.specs.Filling.{filled, from_slices, copies}

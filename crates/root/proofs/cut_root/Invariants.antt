@@ -5,11 +5,11 @@ use Prim.Native.Nat.{◌-◌, ◌*◌, ◌≤◌, ◌<◌}
 use Rattle.root.specs.Steps.{half}
 use Rattle.root.proofs.cut_root.Given as goal
 
-abbrev pub invariant-loop-square : goal.invariant-loop-square
-invariant-loop-square l = (l.square ≡ l.g * l.g) × (l.g < 4 * half)
+abbrev pub invariant-too_large : goal.invariant-too_large
+invariant-too_large l = (l.square ≡ l.g * l.g) × (l.g < 4 * half)
 
-abbrev pub decreases-loop-square : goal.decreases-loop-square
-decreases-loop-square l = l.g
+abbrev pub decreases-too_large : goal.decreases-too_large
+decreases-too_large l = l.g
 
 abbrev pub invariant-loop-g : goal.invariant-loop-g
 invariant-loop-g l = (l.square ≡ l.g * l.g) × (l.square ≤ l.a)

@@ -31,8 +31,8 @@ returns-then-b-lt-INFINITY c =
 pub returns-then-b-eq0 : goal.returns-then-b-eq0
 returns-then-b-eq0 c = let s = c in root-zero s.args.x (held (goal.at.returns-then-b-eq0 c).Start) c.if-b-eq0.true
 
-pub returns-then-b : goal.returns-then-b
-returns-then-b c = let s = c in root-minus_zero s.args.x (held (goal.at.returns-then-b c).Start) c.if-b.true
+pub returns-then-is_minus_zero : goal.returns-then-is_minus_zero
+returns-then-is_minus_zero c = let s = c in root-minus_zero s.args.x (held (goal.at.returns-then-is_minus_zero c).Start) c.if-is_minus_zero.true
 
 pub returns-then-b-eq-INFINITY : goal.returns-then-b-eq-INFINITY
 returns-then-b-eq-INFINITY c = let s = c in root-infinity s.args.x (held (goal.at.returns-then-b-eq-INFINITY c).Start) c.if-b-eq-INFINITY.true
@@ -45,4 +45,4 @@ returns c =
       | then-b-gt0+else-b-lt-INFINITY w ↦ w.if-b-lt-INFINITY.false
       | else-b-gt0 w ↦ omega (arith, w.if-b-gt0.false, c.if-b-eq0.false)
     ] in
-    subst (λ (r : Float). Root s.args.x r) (sym over_zero) (root_none s.args.x (held (goal.at.returns c).Start) c.if-b.false c.if-b-eq-INFINITY.false above)
+    subst (λ (r : Float). Root s.args.x r) (sym over_zero) (root_none s.args.x (held (goal.at.returns c).Start) c.if-is_minus_zero.false c.if-b-eq-INFINITY.false above)

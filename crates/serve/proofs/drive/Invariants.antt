@@ -1,7 +1,7 @@
 -- `serve::drive` meets its contract: each turn leaves what the next asks. Assumes nothing.
 use Rattle.serve.specs.Good.{Good}
 use Rattle.stream.specs.Feeding.{Ready}
-use Rattle.std.specs.Prelude.{◌≡◌, length}
+use Rattle.std.specs.Prelude.{length}
 use Rattle.serve.proofs.drive.Given as goal
 
 abbrev pub invariant-loop-turns : goal.invariant-loop-turns

@@ -14,15 +14,15 @@ returns-then-i-n c =
     let l = c.loop-k in
     passed-out c.args.indices.now c.args.n l.k l.seen (omega arith) l.invariant c.loop-k-test.true c.if-i-n.true
 
-pub returns-then-old-s-eq1 : goal.returns-then-old-s-eq1
-returns-then-old-s-eq1 c =
+pub returns-then-is_seen : goal.returns-then-is_seen
+returns-then-is_seen c =
     let l = c.loop-k in
-    passed_twice c.args.indices.now c.args.n l.k l.seen (omega arith) l.invariant c.loop-k-test.true c.if-i-n.false c.if-old-s-eq1.true
+    passed_twice c.args.indices.now c.args.n l.k l.seen (omega arith) l.invariant c.loop-k-test.true c.if-i-n.false c.if-is_seen.true
 
 pub loop-k-preserved : goal.loop-k-preserved
 loop-k-preserved c =
     let l = c.loop-k in
-    passed-more c.args.indices.now c.args.n l.k l.seen (omega arith) l.invariant c.loop-k-test.true c.if-i-n.false c.if-old-s-eq1.false
+    passed-more c.args.indices.now c.args.n l.k l.seen (omega arith) l.invariant c.loop-k-test.true c.if-i-n.false c.if-is_seen.false
 
 pub returns : goal.returns
 returns c =
