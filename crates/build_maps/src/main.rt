@@ -4,19 +4,19 @@
 
 mod maps;
 
-use std::io;
-use std::io::Read;
+// Standard input. It is read into a fixed buffer: std reads a whole input only into memory that it asks for.
+const STDIN_FILENO: i32 = 0;
 
-fn main(rt: HostRuntime) -> io::Result<()> {
-    let mut text = Vec::new(rt.alloc());
-    rt.stdin().take(131_072).read_to_end(&mut text)?;
+fn main(rt: HostRuntime) -> std::io::Result<()> {
+    let mut text = [0u8; 131072];
+    let n = io::read_full(STDIN_FILENO, &mut text);
     let mut points = [0.0; 1024];
     let mut indices = [0u32; 512];
     let mut boxes = [0.0; 1536];
     let mut links = [0u32; 1024];
     let _ = maps::print_all(
         &rt,
-        text.as_slice(),
+        &text[..n],
         &mut points,
         &mut indices,
         &mut boxes,

@@ -4,13 +4,13 @@
 
 mod vectors;
 
-use std::io;
-use std::io::Read;
+// Standard input. It is read into a fixed buffer: std reads a whole input only into memory that it asks for.
+const STDIN_FILENO: i32 = 0;
 
-fn main(rt: HostRuntime) -> io::Result<()> {
-    let mut text = Vec::new(rt.alloc());
-    rt.stdin().take(262_144).read_to_end(&mut text)?;
-    let t = vectors::run_all(text.as_slice());
+fn main(rt: HostRuntime) -> std::io::Result<()> {
+    let mut text = [0u8; 262144];
+    let n = io::read_full(STDIN_FILENO, &mut text);
+    let t = vectors::run_all(&text[..n]);
     println!(rt; "{} of {} agree", t.agree, t.lines)?;
     if t.first != 0 {
         println!(rt; "the first that does not: line {}", t.first)?;
