@@ -6,7 +6,7 @@ use accept::Checked;
 use std::io;
 
 // What is changed: a value at a place of one of the four slices, or how much of one of them is lent.
-#[derive(Drop)]
+#[derive(Clone, Copy)]
 enum Change {
     Nothing,
     Point(usize, f64),

@@ -6,7 +6,7 @@
 // One tree for one map, whatever the order of its points: only the order of the indices inside a leaf and the centres are
 // left free. Time grows as n log n on every input; nothing is used beyond the slices and the stack of 20 calls. 1,048,576
 // uniform points take 150 ms; sorted, reversed, equal, organ pipe, few values, and an order played against `select`
-// itself took from half of that to four tenths more.
+// itself took from half of that to four tenths more (measured with the older kit).
 // Where a row of the refusals applies, the answer says which, and no slice is touched.
 #![tactic(auto)]
 
@@ -20,7 +20,7 @@ ghost use Rattle.build.specs.Steps.{Number, smaller, PlainBox, Settled, own_of, 
 use distance::Bounds;
 
 // What a build comes to: a tree of so many nodes, or a refusal's number and detail.
-#[derive(Drop)]
+#[derive(Clone, Copy)]
 pub enum Building {
     Nodes(u32),
     Refused(u32, u32),
@@ -294,7 +294,7 @@ fn judge(points: &[f64], indices: usize, boxes: usize, links: usize, leaf_size: 
 
 // ---- the builder
 
-#[derive(Drop)]
+#[derive(Clone, Copy)]
 pub struct BallTreeBuilder {
     leaf_size: u32,
 }

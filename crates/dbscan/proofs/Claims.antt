@@ -22,10 +22,10 @@ use Rattle.dbscan.proofs.State.{state-next, mark_queued, mark_only}
 
 -- ---- lists
 -- inside a list the default is no matter
-pub getD_inside : (l : List ℕ) (i d e : ℕ) → i < length l → get_or l i d ≡ get_or l i e
-getD_inside [] i d e o = omega arith
-getD_inside (x ∷ l) zero d e o = refl
-getD_inside (x ∷ l) (suc i) d e o = getD_inside l i d e (le_of_suc-le-suc o)
+pub get_or_inside : (l : List ℕ) (i d e : ℕ) → i < length l → get_or l i d ≡ get_or l i e
+get_or_inside [] i d e o = omega arith
+get_or_inside (x ∷ l) zero d e o = refl
+get_or_inside (x ∷ l) (suc i) d e o = get_or_inside l i d e (le_of_suc-le-suc o)
 
 pub free-set : (l : List ℕ) (k c : ℕ) → k < length l → get_or l k noise ≡ noise → c < noise → suc (free (set l k c)) ≡ free l
 unfolding free

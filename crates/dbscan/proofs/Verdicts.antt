@@ -24,13 +24,13 @@ module _ (points : List Float) (epsilon : Float) (i b k labels work : ℕ) where
   Is a = Due points epsilon i b k labels work a
 
   -- what the build's own answer says
-  planned_as : (type_size : ℕ) (r : Building) (a : build.Told) → type_size ≡ 16 → build.told r ≡ a → build.Due type_size points i b k (build.told r) → build.Due leaf_size points i b k a
-  planned_as type_size r a e f d = subst (build.Due leaf_size points i b k) f (subst (λ (n : ℕ). build.Due n points i b k (build.told r)) e d)
+  planned_as : (size_of : ℕ) (r : Building) (a : build.Told) → size_of ≡ 16 → build.told r ≡ a → build.Due size_of points i b k (build.told r) → build.Due leaf_size points i b k a
+  planned_as size_of r a e f d = subst (build.Due leaf_size points i b k) f (subst (λ (n : ℕ). build.Due n points i b k (build.told r)) e d)
 
-  module _ (type_size : ℕ) (r : Building) (e : type_size ≡ 16) (d : build.Due type_size points i b k (build.told r)) where
+  module _ (size_of : ℕ) (r : Building) (e : size_of ≡ 16) (d : build.Due size_of points i b k (build.told r)) where
     module _ (number detail : ℕ) (f : r ≡ Refused number detail) where
       plan : build.Due leaf_size points i b k (build.refused number detail)
-      plan = planned_as type_size r (build.refused number detail) e (ap build.told f) d
+      plan = planned_as size_of r (build.refused number detail) e (ap build.told f) d
 
       pub due-first : number < 5 → Is (refused number detail)
       due-first o = record { plan = build.refused number detail; planned = plan; told_is = rw (lt-ltb number 5 o) }
@@ -43,7 +43,7 @@ module _ (points : List Float) (epsilon : Float) (i b k labels work : ℕ) where
 
     module _ (made : ℕ) (f : r ≡ Nodes made) where
       plan-made : build.Due leaf_size points i b k (build.made made)
-      plan-made = planned_as type_size r (build.made made) e (ap build.told f) d
+      plan-made = planned_as size_of r (build.made made) e (ap build.told f) d
 
       -- so the points are in limit
       pub due-few : size points ≤ 1_048_576
@@ -62,9 +62,9 @@ module _ (points : List Float) (epsilon : Float) (i b k labels work : ℕ) where
       due-labelled g o p = record { plan = build.made made; planned = plan-made; told_is = rw (g, le-ltb labels (size points) o, le-ltb work (2 * size points) p) }
 
 -- ---- the build
-pub planted : (type_size : ℕ) (a : build.Told) (t₀ t : Tree) → type_size ≡ 16 → Held t₀.points
-    → build.Given leaf_size t₀.points (length t₀.indices) (length t₀.boxes) (length t₀.links) → build.Outcome type_size t₀ a t → Planted t₀ t
-planted type_size a t₀ t e H g o =
+pub planted : (size_of : ℕ) (a : build.Told) (t₀ t : Tree) → size_of ≡ 16 → Held t₀.points
+    → build.Given leaf_size t₀.points (length t₀.indices) (length t₀.boxes) (length t₀.links) → build.Outcome size_of t₀ a t → Planted t₀ t
+planted size_of a t₀ t e H g o =
     let p = subst (λ (n : ℕ). build.Outcome n t₀ a t) e o in
     let f = outcome_finishes leaf_size t₀ a t g p in
     record { built = f.1; accepted = outcome-accepted leaf_size t₀ a t H p (ap (λ (z : build.Told). z.built) f.0) }

@@ -21,7 +21,7 @@ use build::{BallTreeBuilder, Building};
 use labels::NOISE;
 
 // Labels are given; or a refusal's number and detail.
-#[derive(Drop)]
+#[derive(Clone, Copy)]
 pub enum Labelling {
     Labelled,
     Refused(u32, u32),

@@ -1,5 +1,5 @@
 // The thin entry over the radius query: its hits as a slice of records, index and distance side by side, beside the two
-// slices that the query fills. A slice of records that is written is proved by hand, so two functions alone take one.
+// slices that the query fills. Two functions alone write a slice of records.
 #![tactic(auto)]
 
 ghost use Rattle.std.specs.Prelude.{◌≡◌};
@@ -11,7 +11,7 @@ ghost use Rattle.hits.specs.Filling.{filled, from_slices, how_many, copies, Enou
 use search::Found;
 
 // A hit of a query: the point's index, and its distance.
-#[derive(Drop)]
+#[derive(Clone, Copy)]
 pub struct Hit {
     pub index: u32,
     pub distance: f64,

@@ -28,7 +28,7 @@ use search::Found;
 use tree::Kind;
 
 // What a walk comes to: how many points it holds, or damage.
-#[derive(Drop)]
+#[derive(Clone, Copy)]
 enum Walked {
     Held(usize),
     Damaged,

@@ -18,7 +18,7 @@ use distance::Coord;
 use tree::Kind;
 
 // A hit with its index and its distance; no point at all; or the number of a refusal.
-#[derive(Drop)]
+#[derive(Clone, Copy)]
 pub enum Nearest {
     Hit(u32, f64),
     Empty,

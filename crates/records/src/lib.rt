@@ -8,7 +8,7 @@
 ghost use Rattle.std.specs.Prelude.{◌≡◌, ◌+◌, ◌≤◌, length};
 ghost use Rattle.records.specs.Record.{word_at, long_at, float_at, body_of, record_at, read_at};
 
-#[derive(Drop)]
+#[derive(Clone, Copy)]
 pub enum Record {
     Point(f64, f64),
     Nearest(f64, f64),
@@ -19,7 +19,7 @@ pub enum Record {
 }
 
 // What stands at a place: a whole record and the place past it, the start of one, or nothing.
-#[derive(Drop)]
+#[derive(Clone, Copy)]
 pub enum Read {
     Whole(Record, usize),
     Cut,

@@ -11,7 +11,7 @@ use search::Found;
 
 // How many lines of each letter were met; and how much of the text is left where the first stands that came otherwise, 0 where
 // none did.
-#[derive(Drop)]
+#[derive(Clone, Copy)]
 pub struct Tally {
     pub maps: usize,
     pub nearest: usize,
@@ -22,7 +22,7 @@ pub struct Tally {
 }
 
 // After a line: how many coordinates the last map has, and whether the line came as recorded.
-#[derive(Drop)]
+#[derive(Clone, Copy)]
 struct Turn {
     size: usize,
     good: bool,

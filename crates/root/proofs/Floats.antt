@@ -20,16 +20,16 @@ use Rattle.root.specs.Steps.{lead, infinity, sign, val, RootBits}
 use Rattle.root.proofs.Patterns.{fieldVal, fieldVal-pos, val_fields}
 
 -- ---- a pattern by its sign and its fields
-ofBits_fields : (b : ℕ) (s : Bool) → leb sign b ≡ s → of_bits binary64 b ≡ of_fields binary64 s (b % sign / lead) (b % lead)
+of_bits_fields : (b : ℕ) (s : Bool) → leb sign b ≡ s → of_bits binary64 b ≡ of_fields binary64 s (b % sign / lead) (b % lead)
 unfolding of_bits
-ofBits_fields b s e = ap (λ (s : Bool). of_fields binary64 s (b % sign / lead) (b % lead)) e
+of_bits_fields b s e = ap (λ (s : Bool). of_fields binary64 s (b % sign / lead) (b % lead)) e
 
-pub ofBits_signed : (b : ℕ) → sign ≤ b → of_bits binary64 b ≡ of_fields binary64 true (b % sign / lead) (b % lead)
-ofBits_signed b h = ofBits_fields b true (is_true (leb sign b) (le→leb sign b h))
+pub of_bits_signed : (b : ℕ) → sign ≤ b → of_bits binary64 b ≡ of_fields binary64 true (b % sign / lead) (b % lead)
+of_bits_signed b h = of_bits_fields b true (is_true (leb sign b) (le→leb sign b h))
 
-pub ofBits_unsigned : (b : ℕ) → b < sign → of_bits binary64 b ≡ of_fields binary64 false (b / lead) (b % lead)
-ofBits_unsigned b h =
-    ofBits_fields b false (is_false (leb sign b) (not_T (leb sign b) (λ (u : T (leb sign b)). not-le_of_lt h (leb→le sign b u))))
+pub of_bits_unsigned : (b : ℕ) → b < sign → of_bits binary64 b ≡ of_fields binary64 false (b / lead) (b % lead)
+of_bits_unsigned b h =
+    of_bits_fields b false (is_false (leb sign b) (not_T (leb sign b) (λ (u : T (leb sign b)). not-le_of_lt h (leb→le sign b u))))
     ∙ ap (λ (x : ℕ). of_fields binary64 false (x / lead) (b % lead)) (mod-eq_of_lt h)
 
 -- the exponent's field 2047 is that of the infinities and the NaNs; with any other the float has a value
@@ -50,7 +50,7 @@ fields_value s (suc x) t h =
 
 pub bits_value : (b : ℕ) → b < infinity → HasValue (of_bits binary64 b) false (val b) (2 ^ 1074)
 bits_value b h =
-    subst (λ (v : Float). HasValue v false (val b) (2 ^ 1074)) (sym (ofBits_unsigned b (omega arith)))
+    subst (λ (v : Float). HasValue v false (val b) (2 ^ 1074)) (sym (of_bits_unsigned b (omega arith)))
     (subst (λ (n : ℕ). HasValue (of_fields binary64 false (b / lead) (b % lead)) false n (2 ^ 1074)) (sym (val_fields b)) (fields_value false (b / lead) (b % lead) (omega arith)))
 
 pub units-value : (x : Float) (s : Bool) (a : ℕ) → HasValue x s a (2 ^ 1074) → units x ≡ a
@@ -144,7 +144,7 @@ pub no-root : (b : ℕ) → infinity < b → (b ≡ sign → ⊥) → b < 2 * si
 no-root b h n k = go (dec_le sign b)
   where
     go : Dec (sign ≤ b) → Root (of_bits binary64 b) nan
-    go (yes l) = subst (λ (x : Float). Root x nan) (sym (ofBits_signed b l)) (signed_none (b % sign / lead) (b % lead) (omega arith) (omega (arith, n)))
+    go (yes l) = subst (λ (x : Float). Root x nan) (sym (of_bits_signed b l)) (signed_none (b % sign / lead) (b % lead) (omega arith) (omega (arith, n)))
     go (no m) =
         let l = lt_of_not-le m in
         let d : b % sign ≡ b = omega arith in

@@ -17,7 +17,7 @@ use Rattle.root.specs.Root.{Root, Nearest, units, next, previous}
 use Rattle.root.specs.Steps.{lead, infinity, sign, val}
 use Rattle.root.proofs.Patterns.{fieldVal, val-low, val_at}
 use Rattle.root.proofs.Halfway.{val-next}
-use Rattle.root.proofs.Floats.{ofBits_signed, ofBits_unsigned, fields_top, fields_value, units_bits, units-next, units-previous}
+use Rattle.root.proofs.Floats.{of_bits_signed, of_bits_unsigned, fields_top, fields_value, units_bits, units-next, units-previous}
 
 -- ---- a larger pattern is a larger float
 val-low-to : (b : ℕ) → b ≤ lead → val b ≡ b
@@ -75,10 +75,10 @@ not_positive b h k p = go (dec_le sign b)
     at e = subst (λ (x : Float). T (positive x)) e p
 
     go : Dec (sign ≤ b) → ⊥
-    go (yes l) = fields_not_positive true (b % sign / lead) (b % lead) (omega arith) (λ m. refl) (at (ofBits_signed b l))
+    go (yes l) = fields_not_positive true (b % sign / lead) (b % lead) (omega arith) (λ m. refl) (at (of_bits_signed b l))
     go (no n) =
         let l = lt_of_not-le n in
-        fields_not_positive false (b / lead) (b % lead) (omega arith) (λ m. absurd (never m)) (at (ofBits_unsigned b l))
+        fields_not_positive false (b / lead) (b % lead) (omega arith) (λ m. absurd (never m)) (at (of_bits_unsigned b l))
       where
         never : b / lead < 2047 → ⊥
         never m = omega arith

@@ -1,6 +1,6 @@
 // The square root of an f64, correctly rounded, for every f64. No root is built into the language, so it is worked
 // out here: the upper half of its digits guessed in floats and settled on whole numbers, the lower half by a division.
-// It costs about 8 ns, and 24 ns where each root waits for the one before.
+// It cost about 8 ns, and 24 ns where each root waits for the one before, measured with the older kit.
 //
 // The steps, and why each is exact:
 // 1. `square_root` answers a NaN, the zeros, the infinities and what is below zero from the pattern alone. What is
@@ -38,7 +38,7 @@ const START: u64 = 0x5fe4_0000_0000_0000;
 const CUT: f64 = 4503599627370495.5;
 
 // A float above zero, times 2^2148, as a * 2^52 * (2^h)^2; p is the pattern of the float a / 2^52, from 1 to 4.
-#[derive(Drop)]
+#[derive(Clone, Copy)]
 struct Scaled {
     a: u64,
     h: u64,
@@ -46,7 +46,7 @@ struct Scaled {
 }
 
 // A root, cut to a whole number, and what is over.
-#[derive(Drop)]
+#[derive(Clone, Copy)]
 struct Cut {
     g: u64,
     rest: u64,

@@ -5,7 +5,7 @@ ghost use Rattle.root_vectors.specs.Vectors.{number, expected, Tallied};
 
 // How many lines there are, in how many of them the root is the one expected, and the first where it is not, counted
 // from 1; 0 where there is none.
-#[derive(Drop)]
+#[derive(Clone, Copy)]
 pub struct Tally {
     pub lines: usize,
     pub agree: usize,

@@ -13,7 +13,7 @@ ghost use Rattle.search.specs.Refusal.{refusal};
 use distance::Coord;
 
 // A point that a query holds: its squared distance and its index.
-#[derive(Drop)]
+#[derive(Clone, Copy)]
 pub struct Best {
     pub d2: f64,
     pub index: u32,
@@ -27,7 +27,7 @@ pub enum Found {
 }
 
 // Two children with the entries that each is to cover: the one to visit first, and the other.
-#[derive(Drop)]
+#[derive(Clone, Copy)]
 pub struct Turn {
     pub near: u32,
     pub near_start: usize,

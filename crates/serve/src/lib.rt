@@ -1,4 +1,4 @@
-// The loop of the program: records from a reader, lines to a writer. All that can be said of bytes is said of
+// The loop of the program: records from a reader, lines to a writer. What is said of bytes is said of
 // `stream::feed`; here they are only moved, in large buffers. A record that is cut where a read ended waits at the front for the next one.
 // An error comes only where the reader or the writer gave it, and ends the run.
 #![tactic(auto)]
@@ -12,7 +12,7 @@ use std::io::{Read, Write};
 use stream::Stop;
 
 // The bytes `used..have` of the input are still to be taken; the rest as `stream::feed` has it.
-#[derive(Drop)]
+#[derive(Clone, Copy)]
 struct State {
     have: usize,
     used: usize,

@@ -24,7 +24,7 @@ use search::Found;
 const LONGEST: usize = 32768;
 
 // After a record: the points so far, where its lines end, whether the tree is that of these points, whether the stream goes on.
-#[derive(Drop)]
+#[derive(Clone, Copy)]
 pub struct Step {
     pub count: usize,
     pub wrote: usize,
@@ -33,7 +33,7 @@ pub struct Step {
 }
 
 // Why no further record was taken.
-#[derive(Drop)]
+#[derive(Clone, Copy)]
 pub enum Stop {
     // The rest of the input is no whole record.
     Hungry,
@@ -44,7 +44,7 @@ pub enum Stop {
 }
 
 // After a piece: how much of it is used, and the rest as in `Step`.
-#[derive(Drop)]
+#[derive(Clone, Copy)]
 pub struct Fed {
     pub used: usize,
     pub count: usize,
@@ -54,7 +54,7 @@ pub struct Fed {
 }
 
 // After a whole stream: where its lines end.
-#[derive(Drop)]
+#[derive(Clone, Copy)]
 pub enum Printed {
     // They are all there.
     Whole(usize),

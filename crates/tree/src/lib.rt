@@ -14,7 +14,7 @@ ghost use Rattle.tree.specs.Count.{leaf_of, nodes, node_count};
 use distance::Bounds;
 
 // What a node is: a leaf, a branch with its two children, or damage.
-#[derive(Drop)]
+#[derive(Clone, Copy)]
 pub enum Kind {
     Leaf,
     Branch(u32, u32),
@@ -160,7 +160,7 @@ pub fn leaf_of(leaf_size: u32) -> usize
 }
 
 // The nodes of a tree over c points, and over one more.
-#[derive(Drop)]
+#[derive(Clone, Copy)]
 struct Counts {
     here: usize,
     next: usize,

@@ -7,16 +7,16 @@ use borrow.Author.Rules.{rules}
 use lib.ListN.{length, get_or, set}
 use Rattle.labels.specs.Labels.{noise}
 use Rattle.dbscan.specs.Growing.{held}
-use Rattle.dbscan.proofs.Claims.{getD_inside, claim-left, claim_marked, claim_queued}
+use Rattle.dbscan.proofs.Claims.{get_or_inside, claim-left, claim_marked, claim_queued}
 use Rattle.dbscan.proofs.grow.claim.Goals as goal
 use Rattle.dbscan.proofs.grow.claim.Goals.{Else-k-seed, Start}
 
 -- the default of a look-up is no matter
 same : (c : Start) → get_or c.args.labels.now c.args.k noise ≡ get_or c.args.labels.now c.args.k 0
-same c = getD_inside c.args.labels.now c.args.k noise 0 c.requires.point
+same c = get_or_inside c.args.labels.now c.args.k noise 0 c.requires.point
 
 room : (c : Else-k-seed) → c.args.tail < length c.args.work.now
-room c = c.requires.room ((let it : get_or c.args.labels.now c.args.k noise ≡ get_or c.args.labels.now c.args.k 0 = getD_inside c.args.labels.now c.args.k noise 0 c.requires.point in it) ∙ c.if-labels-k.false)
+room c = c.requires.room ((let it : get_or c.args.labels.now c.args.k noise ≡ get_or c.args.labels.now c.args.k 0 = get_or_inside c.args.labels.now c.args.k noise 0 c.requires.point in it) ∙ c.if-labels-k.false)
 
 pub returns-then-labels-k : goal.returns-then-labels-k
 returns-then-labels-k c =

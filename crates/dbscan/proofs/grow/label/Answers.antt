@@ -10,14 +10,14 @@ use lib.ListN.{get_or, drop, length-take}
 use lib.Seq.{length-take-le}
 use Rattle.tree.specs.Points.{size}
 use Rattle.labels.specs.Labels.{noise, near}
-use Rattle.dbscan.proofs.Claims.{getD_inside}
+use Rattle.dbscan.proofs.Claims.{get_or_inside}
 use Rattle.dbscan.proofs.Rounds.{Queried, queried, between-skip, between-moved}
 use Rattle.dbscan.proofs.grow.label.Goals as goal
 use Rattle.dbscan.proofs.grow.label.Goals.{After-neighbours-around, Start}
 
 -- the default of a look-up is no matter
 same : (c : Start) → get_or c.args.labels.now c.args.i noise ≡ get_or c.args.labels.now c.args.i 0
-same c = getD_inside c.args.labels.now c.args.i noise 0 (omega (arith, c.requires.between.sizes.labels, c.requires.point))
+same c = get_or_inside c.args.labels.now c.args.i noise 0 (omega (arith, c.requires.between.sizes.labels, c.requires.point))
 
 after : (c : After-neighbours-around) → Queried (near c.args.points.now c.args.epsilon) (size c.args.points.now) c.args.i c.neighbours-around.result c.args.work.now (c.neighbours-around.new.out ++ drop (size c.args.points.now) c.args.work.now) c.args.labels.now
 after c =
