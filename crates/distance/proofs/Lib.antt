@@ -1,4 +1,5 @@
 -- Laws that the layers above cite, from the ground up.
+--   Finite    std's test of a finite float
 --   Sign      the square of a rounded difference, with no sign left
 --   Mono      squares and sums keep the order of what is not negative
 --   Box       the box bound is never above the d2 of a point in the box
@@ -9,6 +10,7 @@
 --   Same      d2 is the same either way
 --   Squares   what d2 gives; the test of finite
 --   TotalKey  the order of the keys is totalOrder
+pub mod Finite
 pub mod Sign
 pub mod Mono
 pub mod Box

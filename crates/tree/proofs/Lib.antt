@@ -2,6 +2,7 @@
 pub mod ChildNumbers
 pub mod Counting
 pub mod NotFinite
+pub mod Checked
 pub mod Sound
 pub mod Entries
 pub mod Swaps

@@ -2,6 +2,7 @@
 --   Tree               what a query is lent: points, indices, boxes, links
 --   tree p i b l       the same from four lists
 --   count t            n
+--   point t i          the place of point i, where i is below n
 --   Finite b           the four ends of the box are finite
 --   Holds b px py      the box holds the point, ends included, by numeric order
 --   Boxed t b a e      there is an entry from a to e, b is finite, and it holds the point of each of them
@@ -10,10 +11,11 @@
 --   Grown t            n indices, 0 to n - 1 each once, and node 0 is sound over all of them
 --   Accepted t         points even in length, in limit and finite; and none of them, or Grown
 -- Centres are asked nothing.
-use Rattle.std.specs.Prelude.{◌≡◌, ◌⊎◌, List, [], ◌∷◌, cond, ℕ, ◌+◌, ◌%◌, ◌≤◌, ◌<◌, T, eqb, length, get_or, take, Float}
+use Rattle.std.specs.Prelude.{◌≡◌, ◌⊎◌, List, [], ◌∷◌, cond, ℕ, ◌+◌, ◌%◌, ◌≤◌, ◌<◌, T, eqb, ltb, Option, Some, None, length, get_or, take, Float}
 use Rattle.std.specs.Float.Ieee.{le}
 use Rattle.std.specs.Float.Ieee.Scale.{finite}
 use Rattle.distance.specs.declared.Bounds.{Bounds}
+use Rattle.distance.specs.declared.Coord.{Coord}
 use Rattle.tree.specs.declared.Kind.TheVariants.{Leaf, Branch}
 use Rattle.tree.specs.Points.{limit, size, x, y, AllFinite}
 use Rattle.tree.specs.Node.{bounds, kind, mid}
@@ -29,6 +31,9 @@ tree points indices boxes links = record { points = points; indices = indices; b
 
 abbrev pub count : Tree → ℕ
 count t = size t.points
+
+abbrev pub point : Tree → ℕ → Option Coord
+point t i = cond (ltb i (count t)) (Some (record { x = x t.points i; y = y t.points i })) None
 
 pub record Finite (b : Bounds) : Type 0 where
   pub min_x : T (finite b.min_x)

@@ -3,5 +3,6 @@ pub mod Points
 pub mod Node
 pub mod Count
 pub mod Accepted
+pub mod Lent
 pub mod Entries
 pub mod Inner

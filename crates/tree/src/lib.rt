@@ -1,24 +1,105 @@
-// A tree over points, in slices that the caller lends: six floats a node in `boxes` (centre x, centre y, min x, max x,
-// min y, max y), four numbers a node in `links` (start, end, left, right), and the points' indices. Here a node is read,
-// the indices under it are handed back, the first point that is not finite is found, and the nodes that a tree needs are
-// counted; nothing is asked of the slices, whoever made them. `kind_of` and `bounds_of` read a node that was found sound.
+//! A tree over points, in slices that the caller lends: six floats a node in `boxes` (centre x, centre y, min x, max x,
+//! min y, max y), four numbers a node in `links` (start, end, left, right), and the points' indices. Here a node is read,
+//! the indices under it are handed back, points are tested, and the nodes that a tree needs are counted; nothing is asked
+//! of the slices, whoever made them. `known_kind` and `known_bounds` read a node that was found sound.
 #![tactic(auto)]
 
-ghost use Rattle.std.specs.Prelude.{◌≡◌, ◌+◌, ◌-◌, ◌*◌, ◌^◌, ◌<◌, ◌≤◌, length, get_or};
+ghost use Rattle.std.specs.Prelude.{◌≡◌, ◌+◌, ◌-◌, ◌*◌, ◌^◌, ◌<◌, ◌≤◌, eqb, length, get_or, IfSome};
 ghost use Rattle.std.specs.Float.{nan};
-ghost use Rattle.tree.specs.Points.{limit, FirstBad};
-ghost use Rattle.tree.specs.Node.{bounds, children, kind, part};
+ghost use Rattle.tree.specs.Points.{limit, size, found_at, FirstBad, Checks, counted};
+ghost use Rattle.tree.specs.Node.{bounds, children, mid};
 ghost use Rattle.tree.specs.Inner.{sound, known};
+ghost use Rattle.tree.specs.Accepted.{tree, count, point};
+ghost use Rattle.tree.specs.Lent.{node, kind_of, part_of};
 ghost use Rattle.tree.specs.Count.{leaf_of, nodes, node_count};
 
-use distance::Bounds;
+use distance::{Bounds, Coord};
+use refusal::Refusal;
+use std::marker::Model;
 
-// What a node is: a leaf, a branch with its two children, or damage.
-#[derive(Clone, Copy)]
+/// The most points that there may be.
+pub const MAX_POINTS: usize = 1_048_576;
+
+/// What a node is: a leaf, a branch with its two children, or damage.
+#[derive(Clone, Copy, Debug, PartialEq, Eq)]
 pub enum Kind {
     Leaf,
     Branch(u32, u32),
     Damaged,
+}
+
+/// A node with the entries that it is to cover: those from `start` to `end`.
+#[derive(Clone, Copy, Debug, PartialEq, Eq)]
+pub struct Node {
+    pub number: u32,
+    pub start: usize,
+    pub end: usize,
+}
+
+impl Node {
+    /// Node 0, over all of n points.
+    #[inline]
+    pub fn root(n: usize) -> Self
+        ensures { result ≡ node 0 0 n }
+    {
+        Node {
+            number: 0,
+            start: 0,
+            end: n,
+        }
+    }
+
+    /// How many entries it is to cover.
+    #[inline]
+    pub fn len(self) -> usize
+        requires { self.start ≤ self.end }
+        ensures { result ≡ self.end - self.start }
+    {
+        self.end - self.start
+    }
+
+    /// A child over the left half of the entries.
+    #[inline]
+    pub fn left(self, number: u32) -> Self
+        requires { self.start ≤ self.end }
+        ensures { result ≡ node number self.start (mid self.start self.end) }
+    {
+        Node {
+            number,
+            start: self.start,
+            end: self.start + self.len() / 2,
+        }
+    }
+
+    /// A child over the right half.
+    #[inline]
+    pub fn right(self, number: u32) -> Self
+        requires { self.start ≤ self.end }
+        ensures { result ≡ node number (mid self.start self.end) self.end }
+    {
+        Node {
+            number,
+            start: self.start + self.len() / 2,
+            end: self.end,
+        }
+    }
+}
+
+/// The four slices of a tree, as a caller lends them. Any slices do: whether they are a tree is what the check is for.
+#[derive(Debug, Drop)]
+pub struct Tree<'a> {
+    points: &'a [f64],
+    indices: &'a [u32],
+    boxes: &'a [f64],
+    links: &'a [u32],
+}
+
+impl<'a> Model for Tree<'a> {
+    ghost use Rattle.tree.specs.Accepted.{Tree};
+
+    ghost Value = { Tree };
+
+    ghost view = { λ t. record { points = t.points.now; indices = t.indices.now; boxes = t.boxes.now; links = t.links.now } };
 }
 
 // The float at i; a NaN past the end.
@@ -28,33 +109,14 @@ fn float_at(s: &[f64], i: usize) -> f64
     if i < s.len() { s[i] } else { 0.0 / 0.0 }
 }
 
-// The centre and the box of a node, NaN where it is not whole in the slice.
-pub fn bounds_at(boxes: &[f64], node: u32) -> Bounds
-    ensures { result ≡ bounds boxes.now node }
-{
-    let b = node as usize * 6;
-    Bounds {
-        cx: float_at(boxes, b),
-        cy: float_at(boxes, b + 1),
-        min_x: float_at(boxes, b + 2),
-        max_x: float_at(boxes, b + 3),
-        min_y: float_at(boxes, b + 4),
-        max_y: float_at(boxes, b + 5),
-    }
-}
-
 // What its children make of a node over start to end.
 fn children(start: usize, end: usize, left: u32, right: u32) -> Kind
     requires { start < 2 ^ 32 }
     ensures { result ≡ children (end - start) left right }
 {
-    if left == 0 {
-        if right == 0 {
-            Kind::Leaf
-        } else {
-            Kind::Damaged
-        }
-    } else if right == 0 {
+    if left == 0 && right == 0 {
+        Kind::Leaf
+    } else if left == 0 || right == 0 {
         Kind::Damaged
     } else if start + 1 < end {
         Kind::Branch(left, right)
@@ -63,104 +125,202 @@ fn children(start: usize, end: usize, left: u32, right: u32) -> Kind
     }
 }
 
-// Node `node`, at the place where the halving calls for a node over start to end.
-pub fn kind_at(boxes: &[f64], links: &[u32], node: u32, start: usize, end: usize) -> Kind
-    ensures { result ≡ kind boxes.now links.now node start end }
-{
-    let v = node as usize;
-    if v * 6 + 6 > boxes.len() {
-        return Kind::Damaged;
-    }
-    if v * 4 + 4 > links.len() {
-        return Kind::Damaged;
-    }
-    if links[v * 4] as usize != start {
-        return Kind::Damaged;
-    }
-    if links[v * 4 + 1] as usize != end {
-        return Kind::Damaged;
-    }
-    children(start, end, links[v * 4 + 2], links[v * 4 + 3])
-}
-
-// Whether there is no damage at that place.
-pub fn sound_at(boxes: &[f64], links: &[u32], node: u32, start: usize, end: usize) -> bool
-    ensures { result ≡ sound (kind boxes.now links.now node start end) }
-{
-    if let Kind::Damaged = kind_at(boxes, links, node, start, end) {
-        return false;
-    }
-    true
-}
-
-// What a sound node is: only its children are left to read. An inner function, as the next: a walk has tested the node.
-pub fn kind_of(links: &[u32], node: u32) -> Kind
-    requires { node * 4 + 4 ≤ length links.now }
-    ensures { result ≡ known links.now node }
-{
-    let v = node as usize;
-    let left = links[v * 4 + 2];
-    if left == 0 {
-        return Kind::Leaf;
-    }
-    Kind::Branch(left, links[v * 4 + 3])
-}
-
-// The centre and the box of a node that is whole.
-pub fn bounds_of(boxes: &[f64], node: u32) -> Bounds
-    requires { node * 6 + 6 ≤ length boxes.now }
-    ensures { result ≡ bounds boxes.now node }
-{
-    let b = node as usize * 6;
-    Bounds {
-        cx: boxes[b],
-        cy: boxes[b + 1],
-        min_x: boxes[b + 2],
-        max_x: boxes[b + 3],
-        min_y: boxes[b + 4],
-        max_y: boxes[b + 5],
-    }
-}
-
-// The indices under a node: that part of the caller's own slice, or an empty one where it does not lie in it.
-pub fn part_of<'a>(indices: &'a [u32], start: usize, end: usize) -> &'a [u32]
-    ensures { result.now ≡ part indices.now start end }
-{
-    if start > end {
-        return &indices[0..0];
-    }
-    if end > indices.len() {
-        return &indices[0..0];
-    }
-    &indices[start..end]
-}
-
-// The least index of a point that is not finite; with none, the number of points.
-pub fn first_bad(points: &[f64]) -> usize
-    ensures { FirstBad points.now result }
-{
-    let mut i: usize = 0;
-    while i < points.len() / 2 {
-        if !distance::is_finite(points[2 * i]) {
-            return i;
+impl<'a> Tree<'a> {
+    pub fn new(points: &'a [f64], indices: &'a [u32], boxes: &'a [f64], links: &'a [u32]) -> Self
+        ensures { result ≡ tree points.now indices.now boxes.now links.now }
+    {
+        Tree {
+            points,
+            indices,
+            boxes,
+            links,
         }
-        if !distance::is_finite(points[2 * i + 1]) {
-            return i;
-        }
-        i += 1;
     }
-    i
+
+    /// The points, x and y in turn.
+    #[inline]
+    pub fn points(&self) -> &'a [f64]
+        ensures { result.now ≡ self.now.points }
+    {
+        self.points
+    }
+
+    /// The indices, all that were lent.
+    #[inline]
+    pub fn indices(&self) -> &'a [u32]
+        ensures { result.now ≡ self.now.indices }
+    {
+        self.indices
+    }
+
+    /// How many points there are.
+    #[inline]
+    pub fn len(&self) -> usize
+        ensures { result ≡ count self.now }
+    {
+        self.points.len() / 2
+    }
+
+    /// Whether there are none.
+    #[inline]
+    pub fn is_empty(&self) -> bool
+        ensures { result ≡ eqb (count self.now) 0 }
+    {
+        self.len() == 0
+    }
+
+    /// The place of a point, if the index is one's.
+    #[inline]
+    pub fn point(&self, index: u32) -> Option<Coord>
+        ensures { result ≡ point self.now index }
+    {
+        let at = index as usize;
+        if at < self.points.len() / 2 {
+            Some(Coord {
+                x: self.points[2 * at],
+                y: self.points[2 * at + 1],
+            })
+        } else {
+            None
+        }
+    }
+
+    /// The centre and the box of a node, NaN where it is not whole in the slice.
+    pub fn bounds(&self, node: u32) -> Bounds
+        ensures { result ≡ bounds self.now.boxes node }
+    {
+        let at = node as usize * 6;
+        Bounds {
+            cx: float_at(self.boxes, at),
+            cy: float_at(self.boxes, at + 1),
+            min_x: float_at(self.boxes, at + 2),
+            max_x: float_at(self.boxes, at + 3),
+            min_y: float_at(self.boxes, at + 4),
+            max_y: float_at(self.boxes, at + 5),
+        }
+    }
+
+    /// What a node is, if its place in the halving is that of its entries.
+    #[inline]
+    pub fn kind(&self, node: Node) -> Kind
+        ensures { result ≡ kind_of self.now node }
+    {
+        let at = node.number as usize;
+        if at * 6 + 6 > self.boxes.len() || at * 4 + 4 > self.links.len() {
+            return Kind::Damaged;
+        }
+        if self.links[at * 4] as usize != node.start
+            || self.links[at * 4 + 1] as usize != node.end
+        {
+            return Kind::Damaged;
+        }
+        children(
+            node.start,
+            node.end,
+            self.links[at * 4 + 2],
+            self.links[at * 4 + 3],
+        )
+    }
+
+    /// Whether there is no damage at that place.
+    #[inline]
+    pub fn is_sound(&self, node: Node) -> bool
+        ensures { result ≡ sound (kind_of self.now node) }
+    {
+        self.kind(node) != Kind::Damaged
+    }
+
+    /// What a sound node is: only its children are left to read. An inner function, as the next: a walk has tested the node.
+    #[inline]
+    pub fn known_kind(&self, node: u32) -> Kind
+        requires { node * 4 + 4 ≤ length self.now.links }
+        ensures { result ≡ known self.now.links node }
+    {
+        let at = node as usize * 4;
+        let left = self.links[at + 2];
+        if left == 0 {
+            return Kind::Leaf;
+        }
+        Kind::Branch(left, self.links[at + 3])
+    }
+
+    /// The centre and the box of a node that is whole.
+    #[inline]
+    pub fn known_bounds(&self, node: u32) -> Bounds
+        requires { node * 6 + 6 ≤ length self.now.boxes }
+        ensures { result ≡ bounds self.now.boxes node }
+    {
+        let at = node as usize * 6;
+        Bounds {
+            cx: self.boxes[at],
+            cy: self.boxes[at + 1],
+            min_x: self.boxes[at + 2],
+            max_x: self.boxes[at + 3],
+            min_y: self.boxes[at + 4],
+            max_y: self.boxes[at + 5],
+        }
+    }
+
+    /// The indices under a node: that part of the caller's own slice, or an empty one where it does not lie in it.
+    #[inline]
+    pub fn part(&self, node: Node) -> &'a [u32]
+        ensures { result.now ≡ part_of self.now node }
+    {
+        self.indices.get(node.start..node.end).unwrap_or(&[])
+    }
 }
 
-// The leaf size that counts: 0 counts as 1.
+/// The least index of a point that is not finite, if there is one.
+pub fn first_not_finite(points: &[f64]) -> Option<usize>
+    ensures least { FirstBad points.now (found_at points.now result) }
+    ensures within { IfSome result (λ i. i < size points.now) }
+{
+    for i in 0..points.len() / 2 {
+        let at = Coord {
+            x: points[2 * i],
+            y: points[2 * i + 1],
+        };
+        if !at.is_finite() {
+            return Some(i);
+        }
+    }
+    None
+}
+
+/// Whether the points are even in their coordinates, and not too many.
+#[inline]
+pub fn check_count(points: &[f64]) -> Result<(), Refusal>
+    ensures { result ≡ counted points.now }
+{
+    if points.len() % 2 == 1 {
+        return Err(Refusal::OddCoordinates);
+    }
+    if points.len() / 2 > MAX_POINTS {
+        return Err(Refusal::TooManyPoints);
+    }
+    Ok(())
+}
+
+/// The same, and whether they are finite: what a build asks of points, and so does the check of a tree.
+pub fn check_points(points: &[f64]) -> Result<(), Refusal>
+    ensures { Checks points.now result }
+{
+    check_count(points)?;
+    match first_not_finite(points) {
+        Some(index) => Err(Refusal::PointNotFinite(index as u32)),
+        None => Ok(()),
+    }
+}
+
+/// The leaf size that counts: 0 counts as 1.
 pub fn leaf_of(leaf_size: u32) -> usize
     ensures { result ≡ leaf_of leaf_size }
 {
-    if leaf_size > 0 { leaf_size as usize } else { 1 }
+    (leaf_size as usize).max(1)
 }
 
 // The nodes of a tree over c points, and over one more.
-#[derive(Clone, Copy)]
+#[derive(Clone, Copy, Debug)]
 struct Counts {
     here: usize,
     next: usize,
@@ -192,7 +352,7 @@ fn count_both(leaf: usize, c: usize) -> Counts
     }
 }
 
-// N(c). An inner function: its callers have tested c.
+/// N(c), the nodes of a tree over c points. An inner function: its callers have tested c.
 pub fn count_nodes(leaf: usize, c: usize) -> usize
     requires { (0 < leaf) × (c ≤ limit) }
     ensures { result ≡ nodes leaf c }
@@ -200,15 +360,14 @@ pub fn count_nodes(leaf: usize, c: usize) -> usize
     if c == 0 {
         return 0;
     }
-    let k = count_both(leaf, c);
-    k.here
+    count_both(leaf, c).here
 }
 
-// How many nodes a tree over n points needs; 0 where n is past the limit.
+/// How many nodes a tree over n points needs; 0 where n is past the limit.
 pub fn node_count(n: u32, leaf_size: u32) -> u32
     ensures { result ≡ node_count n leaf_size }
 {
-    if n > 1_048_576 {
+    if n as usize > MAX_POINTS {
         return 0;
     }
     count_nodes(leaf_of(leaf_size), n as usize) as u32

@@ -1,8 +1,7 @@
--- `distance::is_finite` meets its contract: zero times a number is a zero where it is finite. Assumes nothing.
-use lib.Ieee.{of_bits}
-use Rattle.distance.proofs.Squares.{times_zero}
+-- `distance::is_finite` meets its contract: std's word for finite is the same. Assumes nothing.
+use Rattle.distance.proofs.Finite.{finite-std}
+use mathlib.Core.Path.{◌∙◌}
 use Rattle.distance.proofs.is_finite.Goals as goal
 
 pub returns : goal.returns
-unfolding of_bits
-returns c = times_zero c.args.x
+returns c = c.is_finite.ensures.value ∙ finite-std c.args.x

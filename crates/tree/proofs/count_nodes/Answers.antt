@@ -8,5 +8,5 @@ use Rattle.tree.proofs.count_nodes.Goals as goal
 pub returns-then-c-eq0 : goal.returns-then-c-eq0
 returns-then-c-eq0 c = sym (ap (nodes c.args.leaf) c.if-c-eq0.true ∙ nodes-none c.args.leaf)
 
-pub count_both-k-requires : goal.count_both-k-requires
-count_both-k-requires c = (c.requires.0, pos_of_ne-zero c.if-c-eq0.false, c.requires.1)
+pub count_both-requires : goal.count_both-requires
+count_both-requires c = (c.requires.0, pos_of_ne-zero c.if-c-eq0.false, c.requires.1)
