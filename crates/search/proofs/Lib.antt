@@ -10,3 +10,4 @@ pub mod Unrefused
 pub mod Fronts
 pub mod Written
 pub mod Answered
+pub mod Parts

@@ -3,10 +3,10 @@
 -- is what the definition asks of them. By cases on which child comes first. Assumes nothing.
 use mathlib.Core.Path.{◌≡◌, refl, sym, ap, ◌∙◌, subst}
 use mathlib.Core.Bool.{Bool, true, false}
-use mathlib.Core.List.{List, [], ◌∷◌}
+use mathlib.Core.List.{[], ◌∷◌}
 use Prim.Native.Nat.{ℕ, zero, suc, ◌-◌, ◌<◌}
 use native.Mathlib.Omega.{arith}
-use lib.Ieee.{Float}
+use mathlib.Core.Logic.{inl, inr}
 use types.Run.{OneOf}
 use denote.Enum.Declared.{tag_of}
 use Rattle.tree.specs.contracts.Kind as K
@@ -17,7 +17,12 @@ use Rattle.tree.specs.declared.Kind.{Kind}
 use Rattle.tree.specs.declared.Kind.TheVariants.{Branch, Damaged}
 use Rattle.tree.proofs.ChildNumbers.{branch-size}
 use Rattle.tree.proofs.Sound.{tag_sound, sound-known}
-use Rattle.search.specs.Turn.{in_turn}
+use Rattle.tree.specs.declared.Node.{Node}
+use Rattle.tree.specs.Lent.{kind_of}
+use Rattle.search.specs.Turn.{in_turn, first, left_of, right_of, Turned, Shares, OneDamaged}
+use Rattle.distance.specs.declared.Coord.{Coord}
+use Rattle.distance.specs.Distance.{bound}
+use Rattle.search.specs.Rules.{Rules, searching}
 use Rattle.search.specs.declared.Turn.{Turn}
 use Rattle.search.specs.Walk.{Search, Walk, damage, done, and_then, leaf_scan, Got, broken, got, outcome, walk, Walks}
 use Rattle.search.proofs.Steps.{outcome-more, then-damaged, at-damaged, at-skip, at_leaf, at-branch, left-damaged, left-then, right-damaged, right-then}
@@ -65,73 +70,69 @@ module _ {S : Type 0} (t : Tree) (Q : Search S) (v a e : ℕ) (s : S) (l r : ℕ
       go true h = at-branch t Q v a e s l r is p true h f ∙ then_breaks (walk t Q f l a (mid a e) s) (walk t Q f r (mid a e) e) met
       go false h = at-branch t Q v a e s l r is p false h f ∙ then-damaged (walk t Q f r (mid a e) e s) (walk t Q f l a (mid a e)) (met s)
 
--- A branch that a walk goes into: its children are l and r, both sound, and T is the order of the visits.
-pub record Branched {S : Type 0} (t : Tree) (Q : Search S) (v a e : ℕ) (s : S) (T : Turn) : Type 0 where
-  pub l : ℕ
-  pub r : ℕ
-  pub first : Bool
-  pub branch : kind t.boxes t.links v a e ≡ Branch l r
-  pub entered : Q.skip s (bounds t.boxes v) ≡ false
-  pub ordered : first ≡ Q.left_first (bounds t.boxes l) (bounds t.boxes r)
-  pub turned : T ≡ in_turn first l r a (mid a e) e
-  pub left_sound : sound (kind t.boxes t.links l a (mid a e)) ≡ true
-  pub right_sound : sound (kind t.boxes t.links r (mid a e) e) ≡ true
+-- What the two visits ask for, of two children that are no damage: both have fewer entries than the branch and neither has none.
+pub shares : (t : Tree) (q : Coord) (z : Bool) (n : Node) (l r : ℕ) (T : Turn) → kind_of t n ≡ Branch l r → Turned t q z n l r T → Shares t n T
+shares t q z n l r T is b = subst (Shares t n) (sym b.turned) (go (first t q z l r))
+  where
+    h : 1 < n.end - n.start
+    h = branch-size t.boxes t.links n.number n.start n.end l r is
 
--- What the two visits ask for: both parts are shorter than the branch's, neither is empty, and both nodes are sound.
-pub record Ready (boxes : List Float) (links : List ℕ) (a e : ℕ) (T : Turn) : Type 0 where
-  pub near_some : T.near_start < T.near_end
-  pub near_less : T.near_end - T.near_start < e - a
-  pub near_sound : sound (kind boxes links T.near T.near_start T.near_end) ≡ true
-  pub far_some : T.far_start < T.far_end
-  pub far_less : T.far_end - T.far_start < e - a
-  pub far_sound : sound (kind boxes links T.far T.far_start T.far_end) ≡ true
+    go : (w : Bool) → Shares t n (in_turn w (left_of n l) (right_of n r))
+    go true = record {
+      near_some = omega (arith, h);
+      near_less = omega (arith, h);
+      near_sound = b.left_sound;
+      far_some = omega (arith, h);
+      far_less = omega (arith, h);
+      far_sound = b.right_sound;
+      no_more = omega (arith, h);
+    }
+    go false = record {
+      near_some = omega (arith, h);
+      near_less = omega (arith, h);
+      near_sound = b.right_sound;
+      far_some = omega (arith, h);
+      far_less = omega (arith, h);
+      far_sound = b.left_sound;
+      no_more = omega (arith, h);
+    }
 
-module _ {S : Type 0} {t : Tree} {Q : Search S} {v a e : ℕ} {s : S} {T : Turn} (b : Branched t Q v a e s T) where
-  pub ready : Ready t.boxes t.links a e T
-  ready = subst (Ready t.boxes t.links a e) (sym b.turned) (go b.first)
-    where
-      h : 1 < e - a
-      h = branch-size t.boxes t.links v a e b.l b.r b.branch
+-- A branch that a walk goes into, and what the visits of its children come to.
+module _ {S : Type 0} (t : Tree) (q : Coord) (R : Rules S) (n : Node) (s : S) (l r : ℕ) (is : kind_of t n ≡ Branch l r)
+    (entered : R.skip s (bound q (bounds t.boxes n.number)) ≡ false) where
+  abbrev Q : Search S
+  Q = searching R t.points q
 
-      go : (z : Bool) → Ready t.boxes t.links a e (in_turn z b.l b.r a (mid a e) e)
-      go true = record {
-        near_some = omega (arith, h);
-        near_less = omega (arith, h);
-        near_sound = b.left_sound;
-        far_some = omega (arith, h);
-        far_less = omega (arith, h);
-        far_sound = b.right_sound;
-      }
-      go false = record {
-        near_some = omega (arith, h);
-        near_less = omega (arith, h);
-        near_sound = b.right_sound;
-        far_some = omega (arith, h);
-        far_less = omega (arith, h);
-        far_sound = b.left_sound;
-      }
+  -- the walk from node m
+  abbrev pub Comes : Node → S → Got S → Type 0
+  Comes m s g = Walks t Q m.number m.start m.end s g
 
-  module _ (x : Got S) (W : Walks t Q T.near T.near_start T.near_end s x) where
-    at_turn : Walks t Q (in_turn b.first b.l b.r a (mid a e) e).near (in_turn b.first b.l b.r a (mid a e) e).near_start
-        (in_turn b.first b.l b.r a (mid a e) e).near_end s x
-    at_turn = subst (λ (T : Turn). Walks t Q T.near T.near_start T.near_end s x) b.turned W
+  pub child-broken : OneDamaged t n l r → Comes n s broken
+  child-broken o = elim o [
+    | inl h ↦ left-broken t Q n.number n.start n.end s l r is entered h
+    | inr h ↦ right-broken t Q n.number n.start n.end s l r is entered h
+  ]
 
-    pub near-damaged : x ≡ broken → Walks t Q v a e s broken
-    near-damaged g = go b.first (sym b.ordered) at_turn
+  module _ (T : Turn) (b : Turned t q R.nearer_first n l r T) where
+    abbrev z : Bool
+    z = first t q R.nearer_first l r
+
+    at_turn : (x : S) (g : Got S) → Comes T.near x g → Comes (in_turn z (left_of n l) (right_of n r)).near x g
+    at_turn x g W = subst (λ (T : Turn). Comes T.near x g) b.turned W
+
+    far_turn : (x : S) (g : Got S) → Comes T.far x g → Comes (in_turn z (left_of n l) (right_of n r)).far x g
+    far_turn x g W = subst (λ (T : Turn). Comes T.far x g) b.turned W
+
+    pub near-broken : Comes T.near s broken → Comes n s broken
+    near-broken W = go z refl (at_turn s broken W)
       where
-        go : (z : Bool) → Q.left_first (bounds t.boxes b.l) (bounds t.boxes b.r) ≡ z → let T = in_turn z b.l b.r a (mid a e) e in
-            Walks t Q T.near T.near_start T.near_end s x → Walks t Q v a e s broken
-        go true h W = left-damaged t Q v a e s b.l b.r b.branch b.entered h x W g
-        go false h W = right-damaged t Q v a e s b.l b.r b.branch b.entered h x W g
+        go : (w : Bool) → z ≡ w → Comes (in_turn w (left_of n l) (right_of n r)).near s broken → Comes n s broken
+        go true h W = left-damaged t Q n.number n.start n.end s l r is entered h broken W refl
+        go false h W = right-damaged t Q n.number n.start n.end s l r is entered h broken W refl
 
-    pub near-then : (s' : S) → x ≡ got s' → (y : Got S) → Walks t Q T.far T.far_start T.far_end s' y → Walks t Q v a e s y
-    near-then s' g y U = go b.first (sym b.ordered) at_turn (subst (λ (T : Turn). Walks t Q T.far T.far_start T.far_end s' y) b.turned U)
+    pub near-then : (s' : S) → Comes T.near s (got s') → (y : Got S) → Comes T.far s' y → Comes n s y
+    near-then s' W y U = go z refl (at_turn s (got s') W) (far_turn s' y U)
       where
-        go : (z : Bool) → Q.left_first (bounds t.boxes b.l) (bounds t.boxes b.r) ≡ z → let T = in_turn z b.l b.r a (mid a e) e in
-            Walks t Q T.near T.near_start T.near_end s x → Walks t Q T.far T.far_start T.far_end s' y → Walks t Q v a e s y
-        go true h W U = left-then t Q v a e s b.l b.r b.branch b.entered h x W s' g y U
-        go false h W U = right-then t Q v a e s b.l b.r b.branch b.entered h x W s' g y U
-
-    -- the farther child is passed over, by what the nearer one left
-    pub near-skip : (s' : S) → x ≡ got s' → Q.skip s' (bounds t.boxes T.far) ≡ true → Walks t Q v a e s (got s')
-    near-skip s' g p = near-then s' g (got s') (sound-skip t Q T.far T.far_start T.far_end s' ready.far_sound ready.far_some p)
+        go : (w : Bool) → z ≡ w → Comes (in_turn w (left_of n l) (right_of n r)).near s (got s') → Comes (in_turn w (left_of n l) (right_of n r)).far s' y → Comes n s y
+        go true h W U = left-then t Q n.number n.start n.end s l r is entered h (got s') W s' refl y U
+        go false h W U = right-then t Q n.number n.start n.end s l r is entered h (got s') W s' refl y U

@@ -2,6 +2,7 @@
 pub mod Turn
 pub mod Walk
 pub mod Order
+pub mod Rules
 pub mod Refusal
 pub mod Result
 pub mod Answer

@@ -1,4 +1,5 @@
 -- The order in which points are the nearer ones: by squared distance, and where it is the same by index.
+--   at x y             a place
 --   best d i           a point held: its squared distance d and its index i
 --   point points q i   point i as seen from q
 --   before s p         s stands before p
@@ -10,6 +11,9 @@ use Rattle.distance.specs.declared.Bounds.{Bounds}
 use Rattle.distance.specs.declared.Coord.{Coord}
 use Rattle.tree.specs.Points.{x, y}
 use Rattle.search.specs.declared.Best.{Best}
+
+abbrev pub at : Float → Float → Coord
+at x y = record { x = x; y = y }
 
 abbrev pub best : Float → ℕ → Best
 best d i = record { d2 = d; index = i }

@@ -1,151 +1,234 @@
-// What the three queries share: the order of two points by distance, the first tests of a query, and what a refusal by
-// damage leaves. The walk itself, and the law that over an accepted tree it answers as a plain scan, are in specs/ and proofs/.
+//! What the queries share: the order of two points by distance, the first tests of a query, and the walk over a tree, once
+//! for every query. A query is a `Query`: what it holds, and what a bound, a leaf's points and the order of two children are
+//! to it. The law that over an accepted tree the walk answers as a plain scan is in specs/ and proofs/.
 #![tactic(auto)]
 
-ghost use Rattle.std.specs.Prelude.{◌≡◌, cond, ◌+◌, ◌*◌, ◌≤◌, length};
+ghost use Rattle.std.specs.Prelude.{◌≡◌, true, false, cond, ℕ, ◌+◌, ◌-◌, ◌*◌, ◌<◌, ◌≤◌, length, OnOk, OnErr, IfOk};
 ghost use Rattle.distance.specs.Distance.{bound};
 ghost use Rattle.tree.specs.Node.{bounds};
-ghost use Rattle.search.specs.Order.{best, before, left_nearer};
-ghost use Rattle.search.specs.Turn.{in_turn};
-ghost use Rattle.search.specs.Result.{zeros, float_zeros, Rooted};
-ghost use Rattle.search.specs.Refusal.{refusal};
+ghost use Rattle.tree.specs.Inner.{sound};
+ghost use Rattle.tree.specs.Accepted.{count};
+ghost use Rattle.tree.specs.Lent.{kind_of};
+ghost use Rattle.search.specs.Order.{best, before, left_nearer, at};
+ghost use Rattle.search.specs.Turn.{in_turn, Turned, Shares, OneDamaged};
+ghost use Rattle.tree.specs.declared.Kind.TheVariants.{Branch};
+ghost use Rattle.search.specs.Result.{Rooted};
+ghost use Rattle.search.specs.Refusal.{checked};
+ghost use Rattle.search.specs.Walk.{outcome, leaf_scan, walk_all, Walks};
+ghost use Rattle.search.specs.Rules.{Rules, searching, came_to};
 
-use distance::Coord;
+use distance::{Bounds, Coord};
+use refusal::Refusal;
+use tree::{Kind, Node, Tree};
 
-// A point that a query holds: its squared distance and its index.
-#[derive(Clone, Copy)]
+/// A point that a query holds: its squared distance and its index.
+#[derive(Clone, Copy, Debug, PartialEq)]
 pub struct Best {
     pub d2: f64,
     pub index: u32,
 }
 
-// What a query that fills slices answers: how many hits it wrote, or the number and the detail of its refusal.
-#[derive(Clone, Copy)]
-pub enum Found {
-    Hits(u32),
-    Refused(u32, u32),
+impl Best {
+    /// Whether this point stands before the other: by squared distance, then by index.
+    #[inline]
+    pub fn is_before(self, other: Best) -> bool
+        ensures { result ≡ before self other }
+    {
+        if self.d2 < other.d2 {
+            return true;
+        }
+        if self.d2 == other.d2 {
+            return self.index < other.index;
+        }
+        false
+    }
 }
 
-// Two children with the entries that each is to cover: the one to visit first, and the other.
-#[derive(Clone, Copy)]
+/// A walk met damage: a node that is not what its place calls for, or an index that is no point's.
+#[derive(Clone, Copy, Debug, PartialEq, Eq)]
+pub struct Damage;
+
+/// Two children: the one to visit first, and the other.
+#[derive(Clone, Copy, Debug, PartialEq, Eq)]
 pub struct Turn {
-    pub near: u32,
-    pub near_start: usize,
-    pub near_end: usize,
-    pub far: u32,
-    pub far_start: usize,
-    pub far_end: usize,
+    pub near: Node,
+    pub far: Node,
 }
 
-// (da, a) stands before (db, b): by squared distance, then by index.
-pub fn before(da: f64, a: u32, db: f64, b: u32) -> bool
-    ensures { result ≡ before (best da a) (best db b) }
-{
-    if da < db {
-        return true;
-    }
-    if da == db {
-        return a < b;
-    }
-    false
+/// What is asked of a tree. The walk hands it the leaves that it reaches, and asks it which nodes to pass over.
+pub trait Query {
+    // What it holds, and what a walk leaves as it is.
+    ghost State: { Type 0 };
+
+    ghost Fixed: { Type 0 };
+
+    ghost state: { Self → State };
+
+    ghost fixed: { Self → Fixed };
+
+    // What a bound, a point and a whole leaf are to it.
+    ghost rules: { Fixed → Rules State };
+
+    // How many points more it can take.
+    ghost room: { Self → ℕ };
+
+    /// Whether the child with the nearer centre is visited first, and not the left one.
+    fn is_nearer_first(&self) -> bool
+        ensures { result ≡ (rules (fixed self.now)).nearer_first };
+
+    /// Whether a node whose box is that far away, squared, is passed over.
+    fn passes(&self, bound: f64) -> bool
+        ensures { result ≡ (rules (fixed self.now)).skip (state self.now) bound };
+
+    /// Takes the points of a leaf, as seen from a place. `part` has their indices, and `bounds` is the leaf's box.
+    fn scan(&mut self, tree: &Tree, part: &[u32], from: Coord, bounds: Bounds) -> Result<(), Damage>
+        requires { length part.now ≤ room self.old }
+        ensures state { came_to result (state self.new) ≡ outcome (leaf_scan (count tree.now) (searching (rules (fixed self.old)) tree.now.points from) bounds (state self.old) part.now) }
+        ensures fixed { fixed self.new ≡ fixed self.old }
+        ensures room { OnOk result (room self.old ≤ room self.new + length part.now) };
 }
 
-// What a walk skips a node by: its box's bound. An inner function, as the next: a walk has found the nodes sound.
-pub fn node_bound(boxes: &[f64], node: u32, q: Coord) -> f64
-    requires { node * 6 + 6 ≤ length boxes.now }
-    ensures { result ≡ bound q (bounds boxes.now node) }
+// The squared distance to the box of a node that is whole.
+#[inline(always)]
+fn node_bound(tree: &Tree, node: Node, from: Coord) -> f64
+    requires { node.number * 6 + 6 ≤ length tree.now.boxes }
+    ensures { result ≡ bound from (bounds tree.now.boxes node.number) }
 {
-    let b = tree::bounds_of(boxes, node);
-    distance::box_bound(q, b)
+    distance::box_bound(from, tree.known_bounds(node.number))
 }
 
 // Whether the left of two children is visited first: where its centre is no farther.
-pub fn ordered_children(boxes: &[f64], left: u32, right: u32, q: Coord) -> bool
-    requires { (left * 6 + 6 ≤ length boxes.now) × (right * 6 + 6 ≤ length boxes.now) }
-    ensures { result ≡ left_nearer q (bounds boxes.now left) (bounds boxes.now right) }
+#[inline(always)]
+fn is_left_nearer(tree: &Tree, left: Node, right: Node, from: Coord) -> bool
+    requires left { left.number * 6 + 6 ≤ length tree.now.boxes }
+    requires right { right.number * 6 + 6 ≤ length tree.now.boxes }
+    ensures { result ≡ left_nearer from (bounds tree.now.boxes left.number) (bounds tree.now.boxes right.number) }
 {
-    let l = tree::bounds_of(boxes, left);
-    let r = tree::bounds_of(boxes, right);
-    distance::centre_distance_sq(q, l) <= distance::centre_distance_sq(q, r)
+    let to_left = distance::centre_distance_sq(from, tree.known_bounds(left.number));
+    let to_right = distance::centre_distance_sq(from, tree.known_bounds(right.number));
+    to_left <= to_right
 }
 
 // The one of two that is first where `first` says so. Compiled to a choice without a jump, which nobody could foretell.
-fn pick(first: bool, a: u32, b: u32) -> u32
+#[inline(always)]
+fn pick<T: Copy>(first: bool, a: T, b: T) -> T
     ensures { result ≡ cond first a b }
 {
     if first { a } else { b }
 }
 
-// The same of two places.
-fn pick_place(first: bool, a: usize, b: usize) -> usize
-    ensures { result ≡ cond first a b }
-{
-    if first { a } else { b }
-}
-
-// The children of a branch over start to end, in the order of the visit.
-pub fn in_turn(first: bool, left: u32, right: u32, start: usize, mid: usize, end: usize) -> Turn
-    ensures { result ≡ in_turn first left right start mid end }
+// Two children in the order of the visit.
+#[inline(always)]
+fn in_turn(first: bool, left: Node, right: Node) -> Turn
+    ensures { result ≡ in_turn first left right }
 {
     Turn {
-        near: pick(first, left, right),
-        near_start: pick_place(first, start, mid),
-        near_end: pick_place(first, mid, end),
-        far: pick(first, right, left),
-        far_start: pick_place(first, mid, start),
-        far_end: pick_place(first, end, mid),
+        near: Node {
+            number: pick(first, left.number, right.number),
+            start: pick(first, left.start, right.start),
+            end: pick(first, left.end, right.end),
+        },
+        far: Node {
+            number: pick(first, right.number, left.number),
+            start: pick(first, right.start, left.start),
+            end: pick(first, right.end, left.end),
+        },
     }
 }
 
-// The first of 1, 2 and 4 that applies to a query at q over these points; 0 where none does.
-pub fn refusal(points: &[f64], q: Coord) -> u32
-    ensures { result ≡ refusal points.now q }
+// The children of a branch, neither of them damage, in the order of the visit.
+#[inline(always)]
+fn children(
+    tree: &Tree,
+    parent: Node,
+    left: u32,
+    right: u32,
+    from: Coord,
+    is_nearer_first: bool,
+) -> Result<Turn, Damage>
+    requires { kind_of tree.now parent ≡ Branch left right }
+    ensures turned { IfOk result (Turned tree.now from is_nearer_first parent left right) }
+    ensures shares { IfOk result (Shares tree.now parent) }
+    ensures damaged { OnErr result (OneDamaged tree.now parent left right) }
 {
-    if points.len() % 2 == 1 {
-        return 1;
+    let left = parent.left(left);
+    let right = parent.right(right);
+    if !tree.is_sound(left) || !tree.is_sound(right) {
+        return Err(Damage);
     }
-    if points.len() / 2 > 1_048_576 {
-        return 2;
-    }
-    if !distance::is_finite(q.x) {
-        return 4;
-    }
-    if !distance::is_finite(q.y) {
-        return 4;
-    }
-    0
+    let first = !is_nearer_first || is_left_nearer(tree, left, right, from);
+    Ok(in_turn(first, left, right))
 }
 
-// Every entry becomes 0: what damage leaves of an index slice.
-pub fn clear(s: &mut [u32])
-    ensures { s.new ≡ zeros s.old }
+// From a sound node that is not passed over. A branch tests both its children, and works out both their bounds, before it
+// visits either, so that most of those that are passed over cost no call. The place goes as two numbers, which stay in
+// registers.
+fn visit<Q: Query>(tree: &Tree, x: f64, y: f64, node: Node, query: &mut Q) -> Result<(), Damage>
+    requires some { node.start < node.end }
+    requires sound { sound (kind_of tree.now node) ≡ true }
+    requires entered { (Q.rules (Q.fixed query.old)).skip (Q.state query.old) (bound (at x y) (bounds tree.now.boxes node.number)) ≡ false }
+    requires room { node.end - node.start ≤ Q.room query.old }
+    ensures walks { Walks tree.now (searching (Q.rules (Q.fixed query.old)) tree.now.points (at x y)) node.number node.start node.end (Q.state query.old) (came_to result (Q.state query.new)) }
+    ensures fixed { Q.fixed query.new ≡ Q.fixed query.old }
+    ensures room { OnOk result (Q.room query.old ≤ Q.room query.new + (node.end - node.start)) }
 {
-    let mut i = 0;
-    while i < s.len() {
-        s[i] = 0;
-        i += 1;
+    let from = Coord { x, y };
+    let Kind::Branch(left, right) = tree.known_kind(node.number) else {
+        return query.scan(tree, tree.part(node), from, tree.known_bounds(node.number));
+    };
+    let Turn { near, far } = children(tree, node, left, right, from, query.is_nearer_first())?;
+    let near_bound = node_bound(tree, near, from);
+    let far_bound = node_bound(tree, far, from);
+    if !query.passes(near_bound) {
+        visit(tree, x, y, near, query)?;
     }
+    if query.passes(far_bound) {
+        return Ok(());
+    }
+    visit(tree, x, y, far, query)
 }
 
-// The same of a distance slice.
-pub fn clear_floats(s: &mut [f64])
-    ensures { s.new ≡ float_zeros s.old }
+/// The walk of a query over a tree, whoever made it, from node 0 over all its points.
+pub fn walk<Q: Query>(tree: &Tree, from: Coord, query: &mut Q) -> Result<(), Damage>
+    requires some { 0 < count tree.now }
+    requires room { count tree.now ≤ Q.room query.old }
+    ensures walks { came_to result (Q.state query.new) ≡ outcome (walk_all tree.now (searching (Q.rules (Q.fixed query.old)) tree.now.points from) (Q.state query.old)) }
+    ensures fixed { Q.fixed query.new ≡ Q.fixed query.old }
+    ensures room { OnOk result (Q.room query.old ≤ Q.room query.new + count tree.now) }
 {
-    let mut i = 0;
-    while i < s.len() {
-        s[i] = 0.0;
-        i += 1;
+    let n = tree.len();
+    if tree.indices().len() < n {
+        return Err(Damage);
     }
+    let root = Node::root(n);
+    let root_sound = tree.is_sound(root);
+    if !root_sound {
+        return Err(Damage);
+    }
+    let root_bound = node_bound(tree, root, from);
+    if query.passes(root_bound) {
+        return Ok(());
+    }
+    visit(tree, from.x, from.y, root, query)
 }
 
-// The first n entries, squared distances, become distances.
+/// The first of 1, 2 and 4 that applies to a query at a place over these points.
+pub fn check_place(points: &[f64], place: Coord) -> Result<(), Refusal>
+    ensures { result ≡ checked points.now place }
+{
+    tree::check_count(points)?;
+    if !place.is_finite() {
+        return Err(Refusal::PlaceNotFinite);
+    }
+    Ok(())
+}
+
+/// The first n entries, squared distances, become distances.
 pub fn take_roots(s: &mut [f64], n: usize)
     requires { n ≤ length s.old }
     ensures { Rooted n s.old s.new }
 {
-    let mut i = 0;
-    while i < n {
+    for i in 0..n {
         s[i] = root::square_root(s[i]);
-        i += 1;
     }
 }
