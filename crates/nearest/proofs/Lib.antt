@@ -1,5 +1,4 @@
 -- Laws that the proofs and the layers above cite.
-pub mod Cells
 pub mod Entry
 pub mod Least
 pub mod Promise

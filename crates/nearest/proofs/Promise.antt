@@ -32,6 +32,8 @@ use Rattle.search.proofs.Own.{After, walk_after}
 use Rattle.search.proofs.Whole.{Ends, walk-is-plain}
 use Rattle.search.proofs.Rank.{Good}
 use Rattle.search.proofs.Written.{Held, roots_unique}
+use Rattle.refusal.specs.declared.Refusal.{Refusal}
+use Rattle.refusal.proofs.Same.{same-refusal}
 use Rattle.nearest.specs.declared.Nearest.{Nearest}
 use Rattle.nearest.specs.declared.Nearest.TheVariants.{Hit, Empty, Refused}
 use Rattle.nearest.specs.Nearest as n
@@ -179,20 +181,20 @@ Fits (Hit i d) = T (fits binary64 d)
 Fits Empty = Unit
 Fits (Refused k) = Unit
 
-told-one : (r s : Nearest) → (told r).answered ≡ (told s).answered → (told r).number ≡ (told s).number → (told r).indices ≡ (told s).indices → (told r).distances ≡ (told s).distances → r ≡ s
-told-one (Hit i d) (Hit j e) a b c h = cc
-told-one (Hit i d) Empty a b c h = let z : ◌≡◌ {A = ℕ} 0 1 = cc in absurd (omega arith)
-told-one (Hit i d) (Refused k) a b c h = absurd (subst T a tt)
-told-one Empty (Hit j e) a b c h = let z : ◌≡◌ {A = ℕ} 0 1 = cc in absurd (omega arith)
-told-one Empty Empty a b c h = refl
-told-one Empty (Refused k) a b c h = absurd (subst T a tt)
-told-one (Refused k) (Hit j e) a b c h = absurd (subst T (sym a) tt)
-told-one (Refused k) Empty a b c h = absurd (subst T (sym a) tt)
-told-one (Refused k) (Refused m) a b c h = ap Refused b
+told-one : (r s : Nearest) → (told r).answered ≡ (told s).answered → (told r).number ≡ (told s).number → (told r).detail ≡ (told s).detail → (told r).indices ≡ (told s).indices → (told r).distances ≡ (told s).distances → r ≡ s
+told-one (Hit i d) (Hit j e) a b d' c h = cc
+told-one (Hit i d) Empty a b d' c h = let z : ◌≡◌ {A = ℕ} 0 1 = cc in absurd (omega arith)
+told-one (Hit i d) (Refused k) a b d' c h = absurd (subst T a tt)
+told-one Empty (Hit j e) a b d' c h = let z : ◌≡◌ {A = ℕ} 0 1 = cc in absurd (omega arith)
+told-one Empty Empty a b d' c h = refl
+told-one Empty (Refused k) a b d' c h = absurd (subst T a tt)
+told-one (Refused k) (Hit j e) a b d' c h = absurd (subst T (sym a) tt)
+told-one (Refused k) Empty a b d' c h = absurd (subst T (sym a) tt)
+told-one (Refused k) (Refused m) a b d' c h = ap (λ (r : Refusal). Refused r) (same-refusal k m b d')
 
 pub answers_unique : (t : Tree) (q : Coord) (r s : Nearest) → Fits r → Fits s → Answers t q (told r) → Answers t q (told s) → r ≡ s
 answers_unique t q r s f g h k =
-    told-one r s (h.answered_is ∙ sym k.answered_is) (h.number_is ∙ sym k.number_is) (h.indices_are ∙ sym k.indices_are)
+    told-one r s (h.answered_is ∙ sym k.answered_is) (h.number_is ∙ sym k.number_is) (h.detail_is ∙ sym k.detail_is) (h.indices_are ∙ sym k.indices_are)
     (roots_unique h.distances_are k.distances_are (held r f) (held s g))
   where
     held : (r : Nearest) → Fits r → Held (told r).distances

@@ -1,43 +1,44 @@
 -- The nearest point: the least squared distance, then the least index.
+--   rules            of the query, by squared distances: its state is the best so far
 --   better s p       s, unless p is to take its place: only one that stands before p keeps it out
---   nearest points q the query, its state the best so far
+--   nearest points q the query of the walk
 --   none             before any point: farther than all, with an index that is none
 --   Reply            what a query comes to: a hit, no point, or a refusal by number
 --   near t q         by the walk over the tree
 --   near_scan t q    by the plain scan of the points
---   Told, told r     an answer as the paper has it: whether it is one or a refusal, the table's number, and the hits
+--   Told, told r     an answer in numbers: whether it is one or a refusal, the table's number, the detail, and the hits
 --   Says reply told  an answer says what a query comes to, the distance being the root of the squared one
 --   Answers t q a    what the answer to a query at q over t may say: the refusals in order, or what the walk finds
---   celled b s       a walk's answer with its best in two cells: true and s, or false
 use Rattle.std.specs.Prelude.{◌≡◌, Bool, true, false, cond, List, [], ◌∷◌, ℕ, eqb, Float}
 use Rattle.std.specs.Float.{inf}
 use Rattle.std.specs.Float.Ieee.{lt}
-use Rattle.distance.specs.Distance.{bound}
 use Rattle.distance.specs.declared.Coord.{Coord}
 use Rattle.tree.specs.Accepted.{Tree, count}
-use Rattle.search.specs.Walk.{Search, Walk, damage, done, walk_all, plain, Got, broken, got}
-use Rattle.search.specs.Order.{point, before, left_nearer}
+use Rattle.refusal.specs.Numbers as code
+use Rattle.search.specs.Walk.{Search, Walk, damage, done, walk_all, plain}
+use Rattle.search.specs.Rules.{Rules, searching}
+use Rattle.search.specs.Order.{before}
 use Rattle.search.specs.Refusal.{refusal}
 use Rattle.search.specs.Result.{Roots, indices_of, squares_of}
 use Rattle.search.specs.declared.Best.{Best}
 use Rattle.nearest.specs.declared.Nearest.{Nearest}
 use Rattle.nearest.specs.declared.Nearest.TheVariants.{Hit, Empty, Refused}
 
-abbrev pub at : Float → Float → Coord
-at x y = record { x = x; y = y }
-
 abbrev pub better : Best → Best → Best
 better s p = cond (before s p) s p
 
 -- no leaf is taken whole
-abbrev pub nearest : List Float → Coord → Search Best
-nearest points q = record {
-  skip = λ s b. lt s.d2 (bound q b);
-  left_first = left_nearer q;
-  next = λ s i. better s (point points q i);
+abbrev pub rules : Rules Best
+rules = record {
+  nearer_first = true;
+  skip = λ s b. lt s.d2 b;
+  next = better;
   whole = λ b. false;
-  add = λ s i. better s (point points q i);
+  add = better;
 }
+
+abbrev pub nearest : List Float → Coord → Search Best
+nearest points q = searching rules points q
 
 abbrev pub none : Best
 none = record { d2 = inf false; index = 4_294_967_295 }
@@ -64,13 +65,14 @@ near_scan t q = replied t q (hit (plain (nearest t.points q).next none (count t)
 pub record Told : Type 0 where
   pub answered : Bool
   pub number : ℕ
+  pub detail : ℕ
   pub indices : List ℕ
   pub distances : List Float
 
 abbrev pub told : Nearest → Told
-told (Hit i d) = record { answered = true; number = 0; indices = i ∷ []; distances = d ∷ [] }
-told Empty = record { answered = true; number = 0; indices = []; distances = [] }
-told (Refused n) = record { answered = false; number = n; indices = []; distances = [] }
+told (Hit i d) = record { answered = true; number = 0; detail = 0; indices = i ∷ []; distances = d ∷ [] }
+told Empty = record { answered = true; number = 0; detail = 0; indices = []; distances = [] }
+told (Refused r) = record { answered = false; number = code.number r; detail = code.detail r; indices = []; distances = [] }
 
 abbrev pub hits_of : Reply → List Best
 hits_of (hit s) = s ∷ []
@@ -90,12 +92,9 @@ number_of (refused n) = n
 pub record Says (r : Reply) (a : Told) : Type 0 where
   pub answered_is : a.answered ≡ answered_by r
   pub number_is : a.number ≡ number_of r
+  pub detail_is : a.detail ≡ 0
   pub indices_are : a.indices ≡ indices_of (hits_of r)
   pub distances_are : Roots (squares_of (hits_of r)) a.distances
 
 abbrev pub Answers : Tree → Coord → Told → Type 0
 Answers t q a = Says (near t q) a
-
-abbrev pub celled : Bool → Best → Got Best
-celled true s = got s
-celled false s = broken

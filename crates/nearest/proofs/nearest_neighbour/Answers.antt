@@ -1,56 +1,32 @@
 -- `nearest::nearest_neighbour` meets its contract, way by way. Assumes nothing.
-use mathlib.Core.Path.{refl, sym, ◌∙◌}
-use mathlib.Core.Bool.{false}
-use native.Mathlib.Omega.{arith}
-use lib.Ieee.{div, of_bits}
-use Rattle.tree.specs.Accepted.{tree, count}
-use Rattle.tree.proofs.Sound.{unsound}
-use Rattle.search.proofs.Steps.{at-damaged}
-use Rattle.nearest.specs.Nearest.{at, nearest, none}
-use Rattle.nearest.proofs.Entry.{answers-refused, answers-empty, answers-short, answers-damaged, answers-found}
+use Rattle.std.proofs.Common.{sym, ◌∙◌}
+use Rattle.std.specs.Float.Ieee.{of_bits}
+use borrow.Author.Tests.{eqb-true, eqb-false}
+use Rattle.search.proofs.Unrefused.{checked-ok, checked-err}
+use Rattle.nearest.proofs.Entry.{answers-refused, answers-empty, answers-damaged, answers-found}
 use Rattle.nearest.proofs.nearest_neighbour.Goals as goal
 
-pub returns-then-refused-ne0 : goal.returns-then-refused-ne0
-returns-then-refused-ne0 c =
+pub returns-in-Err : goal.returns-in-Err
+returns-in-Err c =
     let a = c.args in
-    let T = tree a.points.now a.indices.now a.boxes.now a.links.now in
-    answers-refused T (at a.x a.y) c.refusal-refused.result c.refusal-refused.ensures c.if-refused-ne0.true
+    answers-refused a.tree.now a.place _ (checked-err a.tree.now.points a.place _ (rw c.points.ensures at (sym c.check_place.ensures ∙ c.in-Err.is)))
 
-pub returns-then-n-eq0 : goal.returns-then-n-eq0
-returns-then-n-eq0 c =
+pub returns-then-is_empty : goal.returns-then-is_empty
+returns-then-is_empty c =
     let a = c.args in
-    let T = tree a.points.now a.indices.now a.boxes.now a.links.now in
-    answers-empty T (at a.x a.y) c.refusal-refused.result c.refusal-refused.ensures c.if-refused-ne0.false c.if-n-eq0.true
+    let ok = checked-ok a.tree.now.points a.place _ (rw c.points.ensures at (sym c.check_place.ensures ∙ c.in_default.is)) in
+    answers-empty a.tree.now a.place ok (eqb-true _ _ (sym c.is_empty.ensures ∙ c.if-is_empty.true))
 
-pub returns-then-indices-n : goal.returns-then-indices-n
-returns-then-indices-n c =
+pub returns-in-Ok : goal.returns-in-Ok
+unfolding of_bits
+returns-in-Ok c =
     let a = c.args in
-    let T = tree a.points.now a.indices.now a.boxes.now a.links.now in
-    answers-short T (at a.x a.y) c.refusal-refused.result c.refusal-refused.ensures c.if-refused-ne0.false c.if-n-eq0.false c.if-indices-n.true
+    let ok = checked-ok a.tree.now.points a.place _ (rw c.points.ensures at (sym c.check_place.ensures ∙ c.in_default.is)) in
+    answers-found a.tree.now a.place ok (eqb-false _ _ (sym c.is_empty.ensures ∙ c.if-is_empty.false)) _ (rw c.in-Ok.is at c.walk.ensures.walks) _ c.square_root.ensures
 
-pub returns-then-not-sound_at : goal.returns-then-not-sound_at
-returns-then-not-sound_at c =
+pub returns-in-Err-walk : goal.returns-in-Err-walk
+unfolding of_bits
+returns-in-Err-walk c =
     let a = c.args in
-    let T = tree a.points.now a.indices.now a.boxes.now a.links.now in
-    answers-damaged T (at a.x a.y) c.refusal-refused.result c.refusal-refused.ensures c.if-refused-ne0.false c.if-n-eq0.false c.if-indices-n.false
-    false none (at-damaged T (nearest a.points.now (at a.x a.y)) 0 0 (count T) none (unsound _ (sym c.sound_at.ensures ∙ c.if-not-sound_at.true))) refl
-
-pub nn_search-requires : goal.nn_search-requires
-nn_search-requires c =
-    (omega (arith, c.if-n-eq0.false), sym c.sound_at.ensures ∙ c.if-not-sound_at.false)
-
-pub returns-then-not-nn_search : goal.returns-then-not-nn_search
-unfolding div of_bits
-returns-then-not-nn_search c =
-    let a = c.args in
-    let T = tree a.points.now a.indices.now a.boxes.now a.links.now in
-    answers-damaged T (at a.x a.y) c.refusal-refused.result c.refusal-refused.ensures c.if-refused-ne0.false c.if-n-eq0.false c.if-indices-n.false
-    c.nn_search.result _ c.nn_search.ensures (c.if-not-nn_search.true)
-
-pub returns : goal.returns
-unfolding div of_bits
-returns c =
-    let a = c.args in
-    let T = tree a.points.now a.indices.now a.boxes.now a.links.now in
-    answers-found T (at a.x a.y) c.refusal-refused.result c.refusal-refused.ensures c.if-refused-ne0.false c.if-n-eq0.false c.if-indices-n.false
-    c.nn_search.result _ c.nn_search.ensures (c.if-not-nn_search.false) _ c.square_root.ensures
+    let ok = checked-ok a.tree.now.points a.place _ (rw c.points.ensures at (sym c.check_place.ensures ∙ c.in_default.is)) in
+    answers-damaged a.tree.now a.place ok (eqb-false _ _ (sym c.is_empty.ensures ∙ c.if-is_empty.false)) (rw c.in-Err-walk.is at c.walk.ensures.walks)
