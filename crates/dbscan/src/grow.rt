@@ -1,47 +1,54 @@
 // How the labels grow: from each core that has none a cluster, through a queue of points that wait to be looked at. Each
 // point is asked for its neighbours once: as it is passed in the order of the points, or as its turn in the queue comes.
-ghost use Rattle.std.specs.Prelude.{◌≡◌, ◌+◌, length, take, replicate};
-ghost use Rattle.tree.specs.Points.{size};
-ghost use Rattle.tree.specs.Accepted.{tree};
+ghost use Rattle.std.specs.Prelude.{◌≡◌, ◌+◌, length, take};
+ghost use Rattle.tree.specs.Accepted.{count};
 ghost use Rattle.labels.specs.Labels.{near};
 ghost use Rattle.dbscan.specs.Growing.{Between, Growing, held, claim, claim_all, Filled, Claimable, Roomy, Asked, Visitable, Startable, Turnable, Runnable, Ran};
 
+use distance::Coord;
 use labels::NOISE;
-use search::Found;
+use tree::Tree;
+
+// How far a neighbour may be, and how many neighbours make a core, from 1 up.
+#[derive(Clone, Copy, Debug, PartialEq)]
+pub struct Density {
+    pub epsilon: f64,
+    pub min_samples: usize,
+}
+
+// A cluster that grows: the core that it grew from, and its label.
+#[derive(Clone, Copy, Debug, PartialEq, Eq)]
+struct Cluster {
+    seed: usize,
+    label: u32,
+}
 
 // The neighbours of point i, rising, into the front of out; and how many they are. There is room for all points, so the
 // query refuses nothing.
-fn neighbours(
-    points: &[f64],
-    indices: &[u32],
-    boxes: &[f64],
-    links: &[u32],
-    epsilon: f64,
-    i: usize,
-    out: &mut [u32],
-) -> usize
-    requires { Asked (tree points.now indices.now boxes.now links.now) epsilon i out.old }
-    ensures { Filled (near points.now epsilon) (size points.now) i result out.new }
+fn neighbours(tree: &Tree, epsilon: f64, i: usize, out: &mut [u32]) -> usize
+    requires { Asked tree.now epsilon i out.old }
+    ensures { Filled (near tree.now.points epsilon) (count tree.now) i result out.new }
 {
-    let x = points[2 * i];
-    let y = points[2 * i + 1];
-    let found = radius::within_radius_indices(points, indices, boxes, links, x, y, epsilon, out);
-    let Found::Hits(count) = found else {
+    let place = Coord {
+        x: tree.points()[2 * i],
+        y: tree.points()[2 * i + 1],
+    };
+    let Ok(count) = radius::within_radius_indices(tree, place, epsilon, out) else {
         return 0;
     };
     count as usize
 }
 
-// Point k takes the label c if it has none, and then waits at tail. One below the seed need not wait: it is no core.
-fn claim(k: usize, seed: usize, c: u32, tail: usize, labels: &mut [u32], work: &mut [u32]) -> usize
+// Point k takes the cluster's label if it has none, and then waits at tail. One below the seed need not wait: it is no core.
+fn claim(k: usize, cluster: Cluster, tail: usize, labels: &mut [u32], work: &mut [u32]) -> usize
     requires { Claimable k work.old tail labels.old }
-    ensures { held work.new result labels.new ≡ claim seed c (held work.old tail labels.old) k }
+    ensures { held work.new result labels.new ≡ claim cluster.seed cluster.label (held work.old tail labels.old) k }
 {
     if labels[k] != NOISE {
         return tail;
     }
-    labels[k] = c;
-    if k < seed {
+    labels[k] = cluster.label;
+    if k < cluster.seed {
         return tail;
     }
     work[tail] = k as u32;
@@ -51,147 +58,103 @@ fn claim(k: usize, seed: usize, c: u32, tail: usize, labels: &mut [u32], work: &
 // The points in the front of the work slice are claimed: the end of what waits then.
 fn claim_all(
     count: usize,
-    seed: usize,
-    c: u32,
+    cluster: Cluster,
     tail: usize,
     labels: &mut [u32],
     work: &mut [u32],
 ) -> usize
-    requires { Roomy count c work.old tail labels.old }
-    ensures { held work.new result labels.new ≡ claim_all seed c (held work.old tail labels.old) (take count work.old) }
+    requires { Roomy count cluster.label work.old tail labels.old }
+    ensures { held work.new result labels.new ≡ claim_all cluster.seed cluster.label (held work.old tail labels.old) (take count work.old) }
 {
     let mut end = tail;
-    let mut x: usize = 0;
-    while x < count {
+    for x in 0..count {
         let k = work[x] as usize;
-        end = claim(k, seed, c, end, labels, work);
-        x += 1;
+        end = claim(k, cluster, end, labels, work);
     }
     end
 }
 
 // The point that waits at head is looked at; a core claims its neighbours. The end of what waits then.
 fn visit(
-    points: &[f64],
-    indices: &[u32],
-    boxes: &[f64],
-    links: &[u32],
-    epsilon: f64,
-    m: usize,
-    seed: usize,
-    c: u32,
+    tree: &Tree,
+    density: Density,
+    cluster: Cluster,
     head: usize,
     tail: usize,
     labels: &mut [u32],
     work: &mut [u32],
 ) -> usize
-    requires { Visitable (tree points.now indices.now boxes.now links.now) epsilon m seed c work.old head tail labels.old }
-    ensures { Growing (near points.now epsilon) (size points.now) m seed c work.new (head + 1) result labels.new }
+    requires { Visitable tree.now density.epsilon density.min_samples cluster.seed cluster.label work.old head tail labels.old }
+    ensures { Growing (near tree.now.points density.epsilon) (count tree.now) density.min_samples cluster.seed cluster.label work.new (head + 1) result labels.new }
 {
-    let n = points.len() / 2;
+    let n = tree.len();
     let q = work[head] as usize;
-    let count = neighbours(points, indices, boxes, links, epsilon, q, &mut work[..n]);
-    if count < m {
+    let count = neighbours(tree, density.epsilon, q, &mut work[..n]);
+    if count < density.min_samples {
         return tail;
     }
-    claim_all(count, seed, c, tail, labels, work)
+    claim_all(count, cluster, tail, labels, work)
 }
 
-// The core i, which has no label and whose neighbours stand in the front of the work slice, takes the label c, and so does
-// all that it reaches.
+// The cluster's core, which has no label and whose neighbours stand in the front of the work slice, takes the label, and so
+// does all that it reaches.
 fn expand(
-    points: &[f64],
-    indices: &[u32],
-    boxes: &[f64],
-    links: &[u32],
-    epsilon: f64,
-    m: usize,
-    i: usize,
-    c: u32,
+    tree: &Tree,
+    density: Density,
+    cluster: Cluster,
     count: usize,
     labels: &mut [u32],
     work: &mut [u32],
 )
-    requires { Startable (tree points.now indices.now boxes.now links.now) epsilon m i c count work.old labels.old }
-    ensures { Between (near points.now epsilon) (size points.now) m (i + 1) (c + 1) work.new labels.new }
+    requires { Startable tree.now density.epsilon density.min_samples cluster.seed cluster.label count work.old labels.old }
+    ensures { Between (near tree.now.points density.epsilon) (count tree.now) density.min_samples (cluster.seed + 1) (cluster.label + 1) work.new labels.new }
 {
-    let n = points.len() / 2;
-    labels[i] = c;
-    work[n] = i as u32;
-    let mut tail = claim_all(count, i, c, n + 1, labels, work);
+    let n = tree.len();
+    labels[cluster.seed] = cluster.label;
+    work[n] = cluster.seed as u32;
+    let mut tail = claim_all(count, cluster, n + 1, labels, work);
     let mut head = n + 1;
+    // Kept: the queue grows while it is read, so that no range is known before.
     while head < tail {
-        tail = visit(
-            points, indices, boxes, links, epsilon, m, i, c, head, tail, labels, work,
-        );
+        tail = visit(tree, density, cluster, head, tail, labels, work);
         head += 1;
     }
 }
 
 // Point i starts a cluster, if it is a core that has no label: how many labels are in use then.
 fn label(
-    points: &[f64],
-    indices: &[u32],
-    boxes: &[f64],
-    links: &[u32],
-    epsilon: f64,
-    m: usize,
+    tree: &Tree,
+    density: Density,
     i: usize,
     c: u32,
     labels: &mut [u32],
     work: &mut [u32],
 ) -> u32
-    requires { Turnable (tree points.now indices.now boxes.now links.now) epsilon m i c work.old labels.old }
-    ensures { Between (near points.now epsilon) (size points.now) m (i + 1) result work.new labels.new }
+    requires { Turnable tree.now density.epsilon density.min_samples i c work.old labels.old }
+    ensures { Between (near tree.now.points density.epsilon) (count tree.now) density.min_samples (i + 1) result work.new labels.new }
 {
     if labels[i] != NOISE {
         return c;
     }
-    let n = points.len() / 2;
-    let around = neighbours(points, indices, boxes, links, epsilon, i, &mut work[..n]);
-    if around < m {
+    let n = tree.len();
+    let around = neighbours(tree, density.epsilon, i, &mut work[..n]);
+    if around < density.min_samples {
         return c;
     }
-    expand(
-        points, indices, boxes, links, epsilon, m, i, c, around, labels, work,
-    );
+    let cluster = Cluster { seed: i, label: c };
+    expand(tree, density, cluster, around, labels, work);
     c + 1
 }
 
-// All entries of s become v.
-pub fn fill(s: &mut [u32], v: u32)
-    ensures { s.new ≡ replicate (length s.old) v }
+/// The labels of all points; the work slice ends as 0.
+pub fn label_all(tree: &Tree, density: Density, labels: &mut [u32], work: &mut [u32])
+    requires { Runnable tree.now density.epsilon density.min_samples work.old labels.old }
+    ensures { Ran (near tree.now.points density.epsilon) (count tree.now) density.min_samples work.new labels.new }
 {
-    let mut i = 0;
-    while i < s.len() {
-        s[i] = v;
-        i += 1;
+    labels.fill(NOISE);
+    let mut c = 0;
+    for i in 0..tree.len() {
+        c = label(tree, density, i, c, labels, work);
     }
-}
-
-// The labels of all points, for m from 1 up; the work slice ends as 0.
-pub fn label_all(
-    points: &[f64],
-    indices: &[u32],
-    boxes: &[f64],
-    links: &[u32],
-    epsilon: f64,
-    m: usize,
-    labels: &mut [u32],
-    work: &mut [u32],
-)
-    requires { Runnable (tree points.now indices.now boxes.now links.now) epsilon m work.old labels.old }
-    ensures { Ran (near points.now epsilon) (size points.now) m work.new labels.new }
-{
-    fill(labels, NOISE);
-    let n = points.len() / 2;
-    let mut c: u32 = 0;
-    let mut i: usize = 0;
-    while i < n {
-        c = label(
-            points, indices, boxes, links, epsilon, m, i, c, labels, work,
-        );
-        i += 1;
-    }
-    fill(work, 0);
+    work.fill(0);
 }

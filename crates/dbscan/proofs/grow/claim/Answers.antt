@@ -20,11 +20,11 @@ room c = c.requires.room ((let it : get_or c.args.labels.now c.args.k noise ≡ 
 
 pub returns-then-labels-k : goal.returns-then-labels-k
 returns-then-labels-k c =
-    claim-left c.args.k c.args.seed c.args.c c.args.tail c.args.work.now c.args.labels.now (λ e. c.if-labels-k.true (sym (same (goal.at.returns-then-labels-k c).Start) ∙ e))
+    claim-left c.args.k c.args.cluster.seed c.args.cluster.label c.args.tail c.args.work.now c.args.labels.now (λ e. c.if-labels-k.true (sym (same (goal.at.returns-then-labels-k c).Start) ∙ e))
 
 pub returns-then-k-seed : goal.returns-then-k-seed
 returns-then-k-seed c =
-    claim_marked c.args.k c.args.seed c.args.c c.args.tail c.args.work.now c.args.labels.now (same (goal.at.returns-then-k-seed c).Start ∙ c.if-labels-k.false) c.if-k-seed.true
+    claim_marked c.args.k c.args.cluster.seed c.args.cluster.label c.args.tail c.args.work.now c.args.labels.now (same (goal.at.returns-then-k-seed c).Start ∙ c.if-labels-k.false) c.if-k-seed.true
 
 pub offset_bounds-work-tail : goal.offset_bounds-work-tail
 offset_bounds-work-tail c = let r = room (goal.at.offset_bounds-work-tail c).Else-k-seed in search rules
@@ -38,4 +38,4 @@ overflow_add-result c = omega (arith, room (goal.at.overflow_add-result c).Else-
 pub returns : goal.returns
 returns c =
     ap (λ (t : ℕ). held (set c.args.work.now c.args.tail c.args.k) t (set c.args.labels.now c.args.k c.args.c)) (add-one c.args.tail)
-    ∙ claim_queued c.args.k c.args.seed c.args.c c.args.tail c.args.work.now c.args.labels.now (same (goal.at.returns c).Start ∙ c.if-labels-k.false) c.if-k-seed.false
+    ∙ claim_queued c.args.k c.args.cluster.seed c.args.cluster.label c.args.tail c.args.work.now c.args.labels.now (same (goal.at.returns c).Start ∙ c.if-labels-k.false) c.if-k-seed.false

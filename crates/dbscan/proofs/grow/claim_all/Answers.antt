@@ -30,11 +30,11 @@ loop-x-preserved c =
     let l = c.loop-x in
     let t = c.loop-x-test.true in
     let k = c.claim-end in
-    let r = roomy_turn a.count a.seed a.c l.x (take a.count a.work.now) l.work l.end l.labels _ _ _ _ l.invariant.3 l.invariant.4 t l.invariant.5 k.ensures in
+    let r = roomy_turn a.count a.cluster.seed a.cluster.label l.x (take a.count a.work.now) l.work l.end l.labels _ _ _ _ l.invariant.3 l.invariant.4 t l.invariant.5 k.ensures in
     (omega arith, k.auto.labels ∙ l.invariant.1, k.auto.work ∙ l.invariant.2, r.0, r.1, r.2)
 
 pub returns : goal.returns
 returns c =
     let a = c.args in
     let l = c.loop-x in
-    claimed-out a.count a.seed a.c l.x a.work.now _ _ c.loop-x-test.false l.invariant.5
+    claimed-out a.count a.cluster.seed a.cluster.label l.x a.work.now _ _ c.loop-x-test.false l.invariant.5

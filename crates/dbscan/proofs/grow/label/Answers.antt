@@ -19,13 +19,13 @@ use Rattle.dbscan.proofs.grow.label.Goals.{After-neighbours-around, Start}
 same : (c : Start) → get_or c.args.labels.now c.args.i noise ≡ get_or c.args.labels.now c.args.i 0
 same c = get_or_inside c.args.labels.now c.args.i noise 0 (omega (arith, c.requires.between.sizes.labels, c.requires.point))
 
-after : (c : After-neighbours-around) → Queried (near c.args.points.now c.args.epsilon) (size c.args.points.now) c.args.i c.neighbours-around.result c.args.work.now (c.neighbours-around.new.out ++ drop (size c.args.points.now) c.args.work.now) c.args.labels.now
+after : (c : After-neighbours-around) → Queried (near c.args.tree.now.points c.args.density.epsilon) (size c.args.tree.now.points) c.args.i c.neighbours-around.result c.args.work.now (c.neighbours-around.new.out ++ drop (size c.args.tree.now.points) c.args.work.now) c.args.labels.now
 after c =
-    queried (near c.args.points.now c.args.epsilon) (size c.args.points.now) c.args.i c.neighbours-around.result c.args.work.now c.args.labels.now c.neighbours-around.new.out c.requires.between.sizes c.neighbours-around.auto.out c.neighbours-around.ensures
+    queried (near c.args.tree.now.points c.args.density.epsilon) (size c.args.tree.now.points) c.args.i c.neighbours-around.result c.args.work.now c.args.labels.now c.neighbours-around.new.out c.requires.between.sizes c.neighbours-around.auto.out c.neighbours-around.ensures
 
 pub returns-then-labels-i : goal.returns-then-labels-i
 returns-then-labels-i c =
-    between-skip (near c.args.points.now c.args.epsilon) (size c.args.points.now) c.args.m c.requires.between c.requires.between.sizes (λ k. has_label c.if-labels-i.true)
+    between-skip (near c.args.tree.now.points c.args.density.epsilon) (size c.args.tree.now.points) c.args.density.min_samples c.requires.between c.requires.between.sizes (λ k. has_label c.if-labels-i.true)
   where
     has_label : (get_or c.args.labels.now c.args.i 0 ≡ noise → ⊥) → get_or c.args.labels.now c.args.i noise < noise
     has_label f = elim (eq-or-lt_of_le (c.requires.between.state.top c.args.i)) [ inl e ↦ absurd (f (sym (same (goal.at.returns-then-labels-i c).Start) ∙ e)) | inr o ↦ o ]
@@ -42,13 +42,13 @@ shape_of-work-then-around-m c = (after (goal.at.shape_of-work-then-around-m c).A
 
 pub returns-then-around-m : goal.returns-then-around-m
 returns-then-around-m c =
-    between-skip (near c.args.points.now c.args.epsilon) (size c.args.points.now) c.args.m c.requires.between (after (goal.at.returns-then-around-m c).After-neighbours-around).sizes (λ k. omega (arith, k.many, c.if-around-m.true, c.neighbours-around.ensures.count))
+    between-skip (near c.args.tree.now.points c.args.density.epsilon) (size c.args.tree.now.points) c.args.density.min_samples c.requires.between (after (goal.at.returns-then-around-m c).After-neighbours-around).sizes (λ k. omega (arith, k.many, c.if-around-m.true, c.neighbours-around.ensures.count))
 
 pub expand-requires : goal.expand-requires
 expand-requires c =
     record {
       search = c.requires.search;
-      between = between-moved (near c.args.points.now c.args.epsilon) (size c.args.points.now) c.args.m c.requires.between (after (goal.at.expand-requires c).After-neighbours-around).sizes;
+      between = between-moved (near c.args.tree.now.points c.args.density.epsilon) (size c.args.tree.now.points) c.args.density.min_samples c.requires.between (after (goal.at.expand-requires c).After-neighbours-around).sizes;
       core = record { inside = c.requires.point; asked = c.requires.asked; many = omega (arith, c.if-around-m.false, c.neighbours-around.ensures.count) };
       bare = same (goal.at.expand-requires c).Start ∙ c.if-labels-i.false;
       filled = (after (goal.at.expand-requires c).After-neighbours-around).filled;

@@ -11,7 +11,7 @@ use Rattle.dbscan.proofs.grow.label_all.Goals as goal
 
 pub loop-i-init : goal.loop-i-init
 loop-i-init c =
-    (omega arith, between_start (near c.args.points.now c.args.epsilon) (size c.args.points.now) c.args.m c.requires.sizes c.fill.ensures)
+    (omega arith, between_start (near c.args.tree.now.points c.args.density.epsilon) (size c.args.tree.now.points) c.args.density.min_samples c.requires.sizes c.fill.ensures)
 
 pub label-c-requires : goal.label-c-requires
 label-c-requires c =
@@ -36,6 +36,6 @@ pub returns : goal.returns
 returns c =
     let l = c.loop-i in
     record {
-      labels = between-end (near c.args.points.now c.args.epsilon) (size c.args.points.now) c.args.m (near_comm c.args.points.now c.args.epsilon) l.invariant.1 l.invariant.0 c.loop-i-test.false;
+      labels = between-end (near c.args.tree.now.points c.args.density.epsilon) (size c.args.tree.now.points) c.args.density.min_samples (near_comm c.args.tree.now.points c.args.density.epsilon) l.invariant.1 l.invariant.0 c.loop-i-test.false;
       cleared = c.fill-2.ensures ∙ ap (λ (k : ℕ). replicate k 0) l.invariant.1.sizes.work;
     }

@@ -6,9 +6,9 @@ use Rattle.dbscan.proofs.grow.neighbours.Goals as goal
 pub returns-in_default : goal.returns-in_default
 returns-in_default c =
     let w = c.within_radius_indices-found in
-    absurd (c.in_default.not-Hits _ (asked-hits (tree c.args.points.now c.args.indices.now c.args.boxes.now c.args.links.now) c.args.epsilon c.args.i c.args.out.now c.requires w.result _ w.ensures))
+    absurd (c.in_default.not-Hits _ (asked-hits (c.args.tree.now) c.args.epsilon c.args.i c.args.out.now c.requires w.result _ w.ensures))
 
 pub returns : goal.returns
 returns c =
     let w = c.within_radius_indices-found in
-    asked-filled (tree c.args.points.now c.args.indices.now c.args.boxes.now c.args.links.now) c.args.epsilon c.args.i c.args.out.now c.requires w.result _ w.ensures _ c.in-Hits.is
+    asked-filled (c.args.tree.now) c.args.epsilon c.args.i c.args.out.now c.requires w.result _ w.ensures _ c.in-Hits.is

@@ -13,17 +13,17 @@ use Rattle.dbscan.proofs.Rounds.{Queried, queried, growing-moved, growing-roomy,
 use Rattle.dbscan.proofs.grow.visit.Goals as goal
 use Rattle.dbscan.proofs.grow.visit.Goals.{After-neighbours-count, Else-count-m}
 
-after : (c : After-neighbours-count) → Queried (near c.args.points.now c.args.epsilon) (size c.args.points.now) (get_or c.args.work.now c.args.head 0) c.neighbours-count.result c.args.work.now (c.neighbours-count.new.out ++ drop (size c.args.points.now) c.args.work.now) c.args.labels.now
+after : (c : After-neighbours-count) → Queried (near c.args.tree.now.points c.args.density.epsilon) (size c.args.tree.now.points) (get_or c.args.work.now c.args.head 0) c.neighbours-count.result c.args.work.now (c.neighbours-count.new.out ++ drop (size c.args.tree.now.points) c.args.work.now) c.args.labels.now
 after c =
-    queried (near c.args.points.now c.args.epsilon) (size c.args.points.now) (get_or c.args.work.now c.args.head 0) c.neighbours-count.result c.args.work.now c.args.labels.now c.neighbours-count.new.out c.requires.growing.sizes c.neighbours-count.auto.out c.neighbours-count.ensures
+    queried (near c.args.tree.now.points c.args.density.epsilon) (size c.args.tree.now.points) (get_or c.args.work.now c.args.head 0) c.neighbours-count.result c.args.work.now c.args.labels.now c.neighbours-count.new.out c.requires.growing.sizes c.neighbours-count.auto.out c.neighbours-count.ensures
 
-grows : (c : After-neighbours-count) → Growing (near c.args.points.now c.args.epsilon) (size c.args.points.now) c.args.m c.args.seed c.args.c (c.neighbours-count.new.out ++ drop (size c.args.points.now) c.args.work.now) c.args.head c.args.tail c.args.labels.now
-grows c = growing-moved (c.neighbours-count.new.out ++ drop (size c.args.points.now) c.args.work.now) (after c).sizes (after c).behind c.requires.growing
+grows : (c : After-neighbours-count) → Growing (near c.args.tree.now.points c.args.density.epsilon) (size c.args.tree.now.points) c.args.density.min_samples c.args.cluster.seed c.args.cluster.label (c.neighbours-count.new.out ++ drop (size c.args.tree.now.points) c.args.work.now) c.args.head c.args.tail c.args.labels.now
+grows c = growing-moved (c.neighbours-count.new.out ++ drop (size c.args.tree.now.points) c.args.work.now) (after c).sizes (after c).behind c.requires.growing
 
-first : (c : After-neighbours-count) → get_or (c.neighbours-count.new.out ++ drop (size c.args.points.now) c.args.work.now) c.args.head 0 ≡ (get_or c.args.work.now c.args.head 0)
+first : (c : After-neighbours-count) → get_or (c.neighbours-count.new.out ++ drop (size c.args.tree.now.points) c.args.work.now) c.args.head 0 ≡ (get_or c.args.work.now c.args.head 0)
 first c = (after c).behind c.args.head c.requires.growing.behind
 
-core : (c : Else-count-m) → Core (near c.args.points.now c.args.epsilon) (size c.args.points.now) c.args.m (get_or c.args.work.now c.args.head 0)
+core : (c : Else-count-m) → Core (near c.args.tree.now.points c.args.density.epsilon) (size c.args.tree.now.points) c.args.density.min_samples (get_or c.args.work.now c.args.head 0)
 core c =
     record { inside = c.requires.growing.inside c.args.head (omega arith) c.requires.some; asked = c.requires.asked; many = omega (arith, c.if-count-m.false, c.neighbours-count.ensures.count) }
 
@@ -42,12 +42,12 @@ shape_of-work-then-count-m c = (after (goal.at.shape_of-work-then-count-m c).Aft
 
 pub returns-then-count-m : goal.returns-then-count-m
 returns-then-count-m c =
-    growing-past (near c.args.points.now c.args.epsilon) (size c.args.points.now) c.args.m (get_or c.args.work.now c.args.head 0) c.neighbours-count.result (grows (goal.at.returns-then-count-m c).After-neighbours-count) c.requires.some (first (goal.at.returns-then-count-m c).After-neighbours-count) (after (goal.at.returns-then-count-m c).After-neighbours-count).filled c.if-count-m.true
+    growing-past (near c.args.tree.now.points c.args.density.epsilon) (size c.args.tree.now.points) c.args.density.min_samples (get_or c.args.work.now c.args.head 0) c.neighbours-count.result (grows (goal.at.returns-then-count-m c).After-neighbours-count) c.requires.some (first (goal.at.returns-then-count-m c).After-neighbours-count) (after (goal.at.returns-then-count-m c).After-neighbours-count).filled c.if-count-m.true
 
 pub claim_all-requires : goal.claim_all-requires
 claim_all-requires c =
-    growing-roomy (near c.args.points.now c.args.epsilon) (size c.args.points.now) c.args.m (grows (goal.at.claim_all-requires c).After-neighbours-count) (after (goal.at.claim_all-requires c).After-neighbours-count).filled
+    growing-roomy (near c.args.tree.now.points c.args.density.epsilon) (size c.args.tree.now.points) c.args.density.min_samples (grows (goal.at.claim_all-requires c).After-neighbours-count) (after (goal.at.claim_all-requires c).After-neighbours-count).filled
 
 pub returns : goal.returns
 returns c =
-    growing-by (near c.args.points.now c.args.epsilon) (size c.args.points.now) c.args.m (near_comm c.args.points.now c.args.epsilon) (get_or c.args.work.now c.args.head 0) c.neighbours-count.result (grows (goal.at.returns c).After-neighbours-count) c.requires.some (first (goal.at.returns c).After-neighbours-count) (core (goal.at.returns c).Else-count-m) (after (goal.at.returns c).After-neighbours-count).filled c.claim_all.ensures
+    growing-by (near c.args.tree.now.points c.args.density.epsilon) (size c.args.tree.now.points) c.args.density.min_samples (near_comm c.args.tree.now.points c.args.density.epsilon) (get_or c.args.work.now c.args.head 0) c.neighbours-count.result (grows (goal.at.returns c).After-neighbours-count) c.requires.some (first (goal.at.returns c).After-neighbours-count) (core (goal.at.returns c).Else-count-m) (after (goal.at.returns c).After-neighbours-count).filled c.claim_all.ensures
