@@ -1,20 +1,21 @@
--- The check decides: any two answers to one tree are equal, and the answer is `Accepted` exactly where the tree is accepted. Two
--- things that are due to one tree are the same, since each says which of the tests is the first to fail. Assumes nothing.
-use mathlib.Core.Path.{◌≡◌, refl, sym, ap, subst}
-use mathlib.Core.List.{List}
+-- The check decides: any two answers to one tree are equal, and the answer is `Ok` exactly where the tree is accepted. Two things
+-- that are due to one tree are the same, since each says which of the tests is the first to fail. Assumes nothing.
+use mathlib.Core.Path.{◌≡◌, refl, sym, ap, ◌∙◌, subst}
+use mathlib.Core.List.{List, [], ◌∷◌}
 use mathlib.Core.Bool.{Bool, true, false}
 use Prim.Native.Nat.{ℕ, ◌<◌}
 use native.Mathlib.Nat.{not-le_of_lt}
 use native.Mathlib.Omega.{arith}
-use lib.Dec.{T}
 use lib.Ieee.{Float}
+use lib.ListN.{get_or}
+use Rattle.std.specs.Prelude.{◌↔◌, Result, Ok, Err, IsOk}
+use Rattle.refusal.specs.declared.Refusal.{Refusal}
+use Rattle.refusal.specs.declared.Refusal.TheVariants.{OddCoordinates, TooManyPoints, PointNotFinite, PlaceNotFinite, RadiusNotValid, IndicesTooShort, NodesTooShort, NoRoom, DamagedTree, UnknownRecord}
+use Rattle.refusal.specs.Numbers.{Told, number, detail, given, refused, done}
 use Rattle.tree.specs.Points.{size, AllFinite, FirstBad}
-use Rattle.tree.specs.Accepted.{Tree}
-use Rattle.tree.specs.Accepted as tree
+use Rattle.tree.specs.Accepted.{Tree, Accepted}
 use Rattle.tree.proofs.NotFinite.{first_bad_not, first_bad_unique, finite_at_of_all}
-use Rattle.accept.specs.declared.Checked.{Checked}
-use Rattle.accept.specs.declared.Checked.TheVariants.{Accepted, Refused}
-use Rattle.accept.specs.Answer.{Told, refused, told, Due, sound, odd, many, not_finite, not_accepted, Answers}
+use Rattle.accept.specs.Answer.{Due, sound, odd, many, not_finite, not_accepted, Answers}
 
 parity : (a : ℕ) → a ≡ 1 → a ≡ 0 → ⊥
 parity a g h = omega arith
@@ -22,14 +23,32 @@ parity a g h = omega arith
 bad_not_all : (points : List Float) (i : ℕ) → i < size points → FirstBad points i → AllFinite points → ⊥
 bad_not_all points i h F A = first_bad_not points i (finite_at_of_all points i A h) (F.there h)
 
-false_not_true : ◌≡◌ {A = Bool} false true → ⊥
-false_not_true e = subst T (sym e) tt
+-- ---- the number and the detail tell which refusal it is
+from_numbers : ℕ → ℕ → Refusal
+from_numbers n d =
+    get_or (UnknownRecord ∷ OddCoordinates ∷ TooManyPoints ∷ PointNotFinite d ∷ PlaceNotFinite ∷ RadiusNotValid ∷ IndicesTooShort d ∷ NodesTooShort d ∷ NoRoom d ∷ DamagedTree ∷ []) n UnknownRecord
 
-pub told_inj : (r s : Checked) → told r ≡ told s → r ≡ s
-told_inj Accepted Accepted e = refl
-told_inj Accepted (Refused n d) e = absurd (false_not_true (sym (ap (λ (a : Told). a.accepted) e)))
-told_inj (Refused n d) Accepted e = absurd (false_not_true (ap (λ (a : Told). a.accepted) e))
-told_inj (Refused n d) (Refused m c) e = ap (λ (a : Told). Refused a.number a.detail) e
+same_refusal : (r : Refusal) → from_numbers (number r) (detail r) ≡ r
+unfolding from_numbers
+same_refusal OddCoordinates = refl
+same_refusal TooManyPoints = refl
+same_refusal (PointNotFinite i) = refl
+same_refusal PlaceNotFinite = refl
+same_refusal RadiusNotValid = refl
+same_refusal (IndicesTooShort n) = refl
+same_refusal (NodesTooShort n) = refl
+same_refusal (NoRoom n) = refl
+same_refusal DamagedTree = refl
+same_refusal UnknownRecord = refl
+
+false_not_true : ◌≡◌ {A = Bool} false true → ⊥
+false_not_true e = cc
+
+pub done_inj : (r s : Result Unit Refusal) → done r ≡ done s → r ≡ s
+done_inj (Ok u) (Ok v) e = refl
+done_inj (Ok u) (Err s) e = absurd (false_not_true (sym (ap (λ (a : Told). a.given) e)))
+done_inj (Err r) (Ok u) e = absurd (false_not_true (ap (λ (a : Told). a.given) e))
+done_inj (Err r) (Err s) e = ap Err (sym (same_refusal r) ∙ ap (λ (a : Told). from_numbers a.number a.detail) e ∙ same_refusal s)
 
 module _ (t : Tree) where
   pub due_unique : {a b : Told} → Due t a → Due t b → a ≡ b
@@ -59,18 +78,22 @@ module _ (t : Tree) where
   due_unique (not_accepted a b c d) (not_finite {i} e f g h) = absurd (bad_not_all t.points i g h c)
   due_unique (not_accepted a b c d) (not_accepted e f g h) = refl
 
-  approved-only : {a : Told} → Due t a → a.accepted ≡ true → tree.Accepted t
-  approved-only (sound a) e = a
-  approved-only (odd a) e = absurd (false_not_true e)
-  approved-only (many a b) e = absurd (false_not_true e)
-  approved-only (not_finite a b c d) e = absurd (false_not_true e)
-  approved-only (not_accepted a b c d) e = absurd (false_not_true e)
+  given-only : {a : Told} → Due t a → a.given ≡ true → Accepted t
+  given-only (sound a) e = a
+  given-only (odd a) e = absurd (false_not_true e)
+  given-only (many a b) e = absurd (false_not_true e)
+  given-only (not_finite a b c d) e = absurd (false_not_true e)
+  given-only (not_accepted a b c d) e = absurd (false_not_true e)
 
-  pub answers_unique : (r s : Checked) → Answers t r → Answers t s → r ≡ s
-  answers_unique r s h k = told_inj r s (due_unique h k)
+  pub answers_unique : (r s : Result Unit Refusal) → Answers t r → Answers t s → r ≡ s
+  answers_unique r s h k = done_inj r s (due_unique h k)
 
-  pub answer_of_accepted : (r : Checked) → Answers t r → tree.Accepted t → r ≡ Accepted
-  answer_of_accepted r h a = answers_unique r Accepted h (sound a)
+  pub answer_of_accepted : (r : Result Unit Refusal) → Answers t r → Accepted t → r ≡ Ok tt
+  answer_of_accepted r h a = answers_unique r (Ok tt) h (sound a)
 
-  pub accepted_of_answer : (r : Checked) → Answers t r → r ≡ Accepted → tree.Accepted t
-  accepted_of_answer r h e = approved-only h (ap (λ (z : Checked). (told z).accepted) e)
+  pub accepted_of_answer : (r : Result Unit Refusal) → Answers t r → r ≡ Ok tt → Accepted t
+  accepted_of_answer r h e = given-only h (ap (λ (z : Result Unit Refusal). (done z).given) e)
+
+  pub ok-accepted : (r : Result Unit Refusal) → Answers t r → IsOk r ↔ Accepted t
+  ok-accepted (Ok u) h = (λ _. accepted_of_answer (Ok u) h refl, λ _. refl)
+  ok-accepted (Err r) h = (λ o. absurd (false_not_true o), λ a. let e = answer_of_accepted (Err r) h a in absurd cc)

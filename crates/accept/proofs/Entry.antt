@@ -1,75 +1,74 @@
 -- The answer of the check, way by way, in the order of its tests. Assumes nothing.
 use mathlib.Core.Path.{◌≡◌, refl}
 use mathlib.Core.Logic.{◌⊎◌, inl, inr}
-use Prim.Native.Nat.{ℕ, zero, suc, ◌%◌, ◌≤◌, ◌<◌}
-use native.Mathlib.Nat.{le_of_suc-le-suc, not-le_of_lt, not-suc-le-zero}
-use native.Mathlib.Omega.{arith}
-use lib.ListN.{length}
-use Rattle.tree.specs.Points.{limit, AllFinite, FirstBad}
+use Prim.Native.Nat.{ℕ, ◌≤◌, ◌<◌}
+use lib.ListN.{length, get_or, take}
+use Rattle.std.specs.Prelude.{◌↔◌, Result, Ok, Err, IsOk}
+use Rattle.std.proofs.lemmas.List.{get_or-take, length-take-le}
+use Rattle.refusal.specs.declared.Refusal.{Refusal}
+use Rattle.refusal.specs.declared.Refusal.TheVariants.{DamagedTree}
+use Rattle.tree.specs.Points.{Usable, Checks, usable}
+use Rattle.tree.specs.Points as points
 use Rattle.tree.specs.Accepted.{Tree, count, Sound, Grown, Accepted}
-use Rattle.tree.proofs.NotFinite.{all_finite_of_first_bad}
-use Rattle.accept.specs.declared.Checked.TheVariants.{Refused}
-use Rattle.accept.specs.declared.Checked.TheVariants as checked
 use Rattle.accept.specs.Answer.{sound, odd, many, not_finite, not_accepted, Answers}
-use Rattle.accept.specs.Inner.{Ready, Once}
+use Rattle.accept.specs.Inner.{Ready, EachOnce}
+use Rattle.accept.proofs.Decides.{ok-accepted}
 
-not_odd : (n : ℕ) → (n % 2 ≡ 1 → ⊥) → n % 2 ≡ 0
-not_odd n f = go (n % 2) f (omega arith)
-  where
-    go : (m : ℕ) → (m ≡ 1 → ⊥) → m < 2 → m ≡ 0
-    go zero f h = refl
-    go (suc zero) f h = absurd (f refl)
-    go (suc (suc m)) f h = absurd (not-suc-le-zero (le_of_suc-le-suc (le_of_suc-le-suc h)))
+-- both clauses of the check
+pub record Answered (t : Tree) (r : Result Unit Refusal) : Type 0 where
+  pub lowest : Answers t r
+  pub accepted : IsOk r ↔ Accepted t
 
 module _ (t : Tree) where
-  pub says-odd : length t.points % 2 ≡ 1 → Answers t (Refused 1 0)
-  says-odd h = odd h
+  answered : (r : Result Unit Refusal) → Answers t r → Answered t r
+  answered r h = record { lowest = h; accepted = ok-accepted t r h }
 
-  pub says-many : (length t.points % 2 ≡ 1 → ⊥) → limit < count t → Answers t (Refused 2 0)
-  says-many f h = many (not_odd (length t.points) f) h
+  -- the points are refused, or usable
+  pub answered-points : (r : Refusal) → Checks t.points (Err r) → Answered t (Err r)
+  answered-points r h = answered (Err r) (go h refl)
+    where
+      go : {a : Result Unit Refusal} → Checks t.points a → a ≡ Err r → Answers t a
+      go (points.odd h) e = odd h
+      go (points.many h k) e = many h k
+      go (points.not_finite h k l m) e = not_finite h k l m
+      go (usable u) e = absurd cc
 
--- the first two tests are passed, and r is the first point that is not finite
-pub record Searched (t : Tree) (r : ℕ) : Type 0 where
-  pub even : length t.points % 2 ≡ 1 → ⊥
-  pub in_limit : count t ≤ limit
-  pub first : FirstBad t.points r
+  pub usable_points : (v : Unit) → Checks t.points (Ok v) → Usable t.points
+  usable_points v h = go h refl
+    where
+      go : {a : Result Unit Refusal} → Checks t.points a → a ≡ Ok v → Usable t.points
+      go (points.odd h) e = absurd cc
+      go (points.many h k) e = absurd cc
+      go (points.not_finite h k l m) e = absurd cc
+      go (usable u) e = u
 
-module _ (t : Tree) (r : ℕ) (S : Searched t r) where
-  even : length t.points % 2 ≡ 0
-  even = not_odd (length t.points) S.even
+  module _ (u : Usable t.points) where
+    pub answered-accepted : (count t ≡ 0) ⊎ Grown t → Answered t (Ok tt)
+    answered-accepted g = answered (Ok tt) (sound record { even = u.even; in_limit = u.in_limit; all_finite = u.all_finite; tree = g })
 
-  pub says-not_finite : r < count t → Answers t (Refused 3 r)
-  says-not_finite h = not_finite even S.in_limit h S.first
+    pub answered-damaged : ((count t ≡ 0) ⊎ Grown t → ⊥) → Answered t (Err DamagedTree)
+    answered-damaged f = answered (Err DamagedTree) (not_accepted u.even u.in_limit u.all_finite (λ a. f a.tree))
 
-  module _ (h : count t ≤ r) where
-    all_finite : AllFinite t.points
-    all_finite = all_finite_of_first_bad t.points r even S.first h
+-- a tree with indices enough
+module _ (t : Tree) (room : count t ≤ length t.indices) where
+  front : length (take (count t) t.indices) ≡ count t
+  front = length-take-le (count t) t.indices room
 
-    says_nine : (Accepted t → ⊥) → Answers t (Refused 9 0)
-    says_nine f = not_accepted even S.in_limit all_finite f
+  entry : (k : ℕ) → k < count t → get_or (take (count t) t.indices) k 0 ≡ get_or t.indices k 0
+  entry k h = get_or-take (count t) t.indices k 0 h
 
-    says-accepted : (count t ≡ 0) ⊎ Grown t → Answers t checked.Accepted
-    says-accepted g = sound record { even = even; in_limit = S.in_limit; all_finite = all_finite; tree = g }
+  pub grown-once : Grown t → EachOnce (take (count t) t.indices)
+  grown-once g = record {
+    below = λ k h. rw (entry k (rw front at h), front) (g.below k (rw front at h));
+    once = λ i h. g.once i (rw front at h);
+  }
 
-    pub says_none : count t ≡ 0 → Answers t checked.Accepted
-    says_none z = says-accepted (inl z)
+  module _ (O : EachOnce (take (count t) t.indices)) where
+    below : (k : ℕ) → k < count t → get_or t.indices k 0 < count t
+    below k h = rw (entry k h, front) at (O.below k (rw front h))
 
-    module _ (z : count t ≡ 0 → ⊥) where
-      grown : Accepted t → Grown t
-      grown a = elim a.tree [ inl e ↦ absurd (z e) | inr g ↦ g ]
+    pub ready : Usable t.points → Ready t
+    ready u = record { room = room; below = below; all_finite = u.all_finite }
 
-      pub says-short : length t.indices < count t → Answers t (Refused 9 0)
-      says-short s = says_nine (λ (a : Accepted t). not-le_of_lt s (grown a).room)
-
-      pub says_twice : (Once t.indices (count t) → ⊥) → Answers t (Refused 9 0)
-      says_twice f = says_nine (λ (a : Accepted t). let g = grown a in f record { below = g.below; once = g.once })
-
-      pub says-damage : (Sound t 0 0 (count t) → ⊥) → Answers t (Refused 9 0)
-      says-damage f = says_nine (λ (a : Accepted t). f (grown a).root)
-
-      module _ (room : count t ≤ length t.indices) (O : Once t.indices (count t)) where
-        pub ready : Ready t.points t.indices
-        ready = record { room = room; below = O.below; all_finite = all_finite }
-
-        pub says_grown : Sound t 0 0 (count t) → Answers t checked.Accepted
-        says_grown s = says-accepted (inr record { room = room; below = O.below; once = O.once; root = s })
+    pub once-grown : Sound t 0 0 (count t) → Grown t
+    once-grown s = record { room = room; below = below; once = λ i h. O.once i (rw front h); root = s }

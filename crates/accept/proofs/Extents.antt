@@ -14,10 +14,10 @@ use borrow.Author.Tests.{ltb-true, ltb-false}
 use Rattle.distance.specs.declared.Bounds.{Bounds}
 use Rattle.distance.proofs.Order.{le_chain}
 use Rattle.distance.proofs.Prune.{lt→le, le_self, le_of_not_lt}
-use Rattle.tree.specs.Points.{size, x, y}
-use Rattle.tree.specs.Accepted.{Tree, Boxed}
+use Rattle.tree.specs.Points.{x, y}
+use Rattle.tree.specs.Accepted.{Tree, count, Boxed}
 use Rattle.accept.specs.declared.extent.Extent.{Extent}
-use Rattle.accept.specs.Inner.{low_of, high_of, joined, dot, inside, fits, Extreme, above, Tight, Ready}
+use Rattle.accept.specs.Inner.{low_of, high_of, joined, dot, spans, fits, Extreme, above, Tight, Ready}
 
 pub of_true : (b : Bool) → b ≡ true → T b
 of_true b e = subst T (sym e) tt
@@ -84,30 +84,30 @@ module _ (f : ℕ → Float) (n : ℕ) (F : (k : ℕ) → k < n → T (finite (f
   high-join : Extreme above f a h p → Extreme above f h e q → Extreme above f a e (high_of p q)
   high-join M N = extreme_join above f (λ u v w i j. le_chain w v u j i) a h e p q M N (lt p q) (lt_true_le p q) (lt_false_le p q (extreme_finite n H F M) (extreme_finite n E F N))
 
-module _ (points : List Float) (indices : List ℕ) (O : Ready points indices) where
-  fine_x : (k : ℕ) → k < size points → T (finite (x points (get_or indices k 0)))
-  fine_x k h = O.all_finite (2 * get_or indices k 0) (omega (arith, O.below k h))
+module _ (t : Tree) (O : Ready t) where
+  fine_x : (k : ℕ) → k < count t → T (finite (x t.points (get_or t.indices k 0)))
+  fine_x k h = O.all_finite (2 * get_or t.indices k 0) (omega (arith, O.below k h))
 
-  fine_y : (k : ℕ) → k < size points → T (finite (y points (get_or indices k 0)))
-  fine_y k h = O.all_finite (2 * get_or indices k 0 + 1) (omega (arith, O.below k h))
+  fine_y : (k : ℕ) → k < count t → T (finite (y t.points (get_or t.indices k 0)))
+  fine_y k h = O.all_finite (2 * get_or t.indices k 0 + 1) (omega (arith, O.below k h))
 
-  pub tight_one : (k : ℕ) → k < size points → Tight points indices k (k + 1) (dot points indices k)
+  pub tight_one : (k : ℕ) → k < count t → Tight t k (k + 1) (dot t k)
   tight_one k h =
-      let X = le_self (x points (get_or indices k 0)) (no_nan (x points (get_or indices k 0)) (fine_x k h)) in
-      let Y = le_self (y points (get_or indices k 0)) (no_nan (y points (get_or indices k 0)) (fine_y k h)) in
+      let X = le_self (x t.points (get_or t.indices k 0)) (no_nan (x t.points (get_or t.indices k 0)) (fine_x k h)) in
+      let Y = le_self (y t.points (get_or t.indices k 0)) (no_nan (y t.points (get_or t.indices k 0)) (fine_y k h)) in
       record {
-        low_x = extreme_one le (λ k. x points (get_or indices k 0)) k X;
-        high_x = extreme_one above (λ k. x points (get_or indices k 0)) k X;
-        low_y = extreme_one le (λ k. y points (get_or indices k 0)) k Y;
-        high_y = extreme_one above (λ k. y points (get_or indices k 0)) k Y;
+        low_x = extreme_one le (λ k. x t.points (get_or t.indices k 0)) k X;
+        high_x = extreme_one above (λ k. x t.points (get_or t.indices k 0)) k X;
+        low_y = extreme_one le (λ k. y t.points (get_or t.indices k 0)) k Y;
+        high_y = extreme_one above (λ k. y t.points (get_or t.indices k 0)) k Y;
       }
 
-  pub tight_join : (a h e : ℕ) (s t : Extent) → h ≤ size points → e ≤ size points → Tight points indices a h s → Tight points indices h e t → Tight points indices a e (joined s t)
-  tight_join a h e s t H E S U = record {
-    low_x = low-join (λ k. x points (get_or indices k 0)) (size points) fine_x a h e H E s.min_x t.min_x S.low_x U.low_x;
-    high_x = high-join (λ k. x points (get_or indices k 0)) (size points) fine_x a h e H E s.max_x t.max_x S.high_x U.high_x;
-    low_y = low-join (λ k. y points (get_or indices k 0)) (size points) fine_y a h e H E s.min_y t.min_y S.low_y U.low_y;
-    high_y = high-join (λ k. y points (get_or indices k 0)) (size points) fine_y a h e H E s.max_y t.max_y S.high_y U.high_y;
+  pub tight_join : (a h e : ℕ) (s u : Extent) → h ≤ count t → e ≤ count t → Tight t a h s → Tight t h e u → Tight t a e (joined s u)
+  tight_join a h e s u H E S U = record {
+    low_x = low-join (λ k. x t.points (get_or t.indices k 0)) (count t) fine_x a h e H E s.min_x u.min_x S.low_x U.low_x;
+    high_x = high-join (λ k. x t.points (get_or t.indices k 0)) (count t) fine_x a h e H E s.max_x u.max_x S.high_x U.high_x;
+    low_y = low-join (λ k. y t.points (get_or t.indices k 0)) (count t) fine_y a h e H E s.min_y u.min_y S.low_y U.low_y;
+    high_y = high-join (λ k. y t.points (get_or t.indices k 0)) (count t) fine_y a h e H E s.max_y u.max_y S.high_y U.high_y;
   }
 
 -- ---- the test, on one axis
@@ -118,8 +118,8 @@ record Between (min max : Float) (f : ℕ → Float) (a e : ℕ) : Type 0 where
   under : (k : ℕ) → a ≤ k → k < e → T (le (f k) max)
 
 module _ (min max low high : Float) (f : ℕ → Float) (a e : ℕ) (L : Extreme le f a e low) (H : Extreme above f a e high) where
-  inside-between : T (inside min max low high) → Between min max f a e
-  inside-between h =
+  spans-between : T (spans min max low high) → Between min max f a e
+  spans-between h =
       let p = finite min in
       let q = finite max in
       let r = le min low in
@@ -131,8 +131,8 @@ module _ (min max low high : Float) (f : ℕ → Float) (a e : ℕ) (L : Extreme
         under = λ k i j. le_chain (f k) high max (H.all k i j) (and_r (p && q && r) s h);
       }
 
-  between-inside : Between min max f a e → T (inside min max low high)
-  between-inside B =
+  between-spans : Between min max f a e → T (spans min max low high)
+  between-spans B =
       let p = finite min in
       let q = finite max in
       let r = le min low in
@@ -142,7 +142,7 @@ module _ (min max low high : Float) (f : ℕ → Float) (a e : ℕ) (L : Extreme
       (subst (λ (z : Float). T (le z max)) (sym H.is) (B.under H.at H.from H.to))
 
 -- ---- and on both
-module _ (t : Tree) (b : Bounds) (a e : ℕ) (s : Extent) (S : Tight t.points t.indices a e s) where
+module _ (t : Tree) (b : Bounds) (a e : ℕ) (s : Extent) (S : Tight t a e s) where
   abbrev fx : ℕ → Float
   fx k = x t.points (get_or t.indices k 0)
 
@@ -150,15 +150,15 @@ module _ (t : Tree) (b : Bounds) (a e : ℕ) (s : Extent) (S : Tight t.points t.
   fy k = y t.points (get_or t.indices k 0)
 
   abbrev ix : Bool
-  ix = inside b.min_x b.max_x s.min_x s.max_x
+  ix = spans b.min_x b.max_x s.min_x s.max_x
 
   abbrev iy : Bool
-  iy = inside b.min_y b.max_y s.min_y s.max_y
+  iy = spans b.min_y b.max_y s.min_y s.max_y
 
   pub fits_boxed : T (fits b s) → Boxed t b a e
   fits_boxed h =
-      let X = inside-between b.min_x b.max_x s.min_x s.max_x fx a e S.low_x S.high_x (and_l ix iy h) in
-      let Y = inside-between b.min_y b.max_y s.min_y s.max_y fy a e S.low_y S.high_y (and_r ix iy h) in
+      let X = spans-between b.min_x b.max_x s.min_x s.max_x fx a e S.low_x S.high_x (and_l ix iy h) in
+      let Y = spans-between b.min_y b.max_y s.min_y s.max_y fy a e S.low_y S.high_y (and_r ix iy h) in
       record {
         some = omega (arith, S.low_x.from, S.low_x.to);
         closed = record { min_x = X.min_finite; max_x = X.max_finite; min_y = Y.min_finite; max_y = Y.max_finite };
@@ -167,13 +167,13 @@ module _ (t : Tree) (b : Bounds) (a e : ℕ) (s : Extent) (S : Tight t.points t.
 
   pub boxed_fits : Boxed t b a e → T (fits b s)
   boxed_fits B = and_i ix iy
-      (between-inside b.min_x b.max_x s.min_x s.max_x fx a e S.low_x S.high_x record {
+      (between-spans b.min_x b.max_x s.min_x s.max_x fx a e S.low_x S.high_x record {
         min_finite = B.closed.min_x;
         max_finite = B.closed.max_x;
         over = λ k i j. (B.holds k i j).above_x;
         under = λ k i j. (B.holds k i j).below_x;
       })
-      (between-inside b.min_y b.max_y s.min_y s.max_y fy a e S.low_y S.high_y record {
+      (between-spans b.min_y b.max_y s.min_y s.max_y fy a e S.low_y S.high_y record {
         min_finite = B.closed.min_y;
         max_finite = B.closed.max_y;
         over = λ k i j. (B.holds k i j).above_y;

@@ -4,5 +4,5 @@ pub mod Times
 pub mod Turns
 pub mod Extents
 pub mod Nodes
-pub mod Entry
 pub mod Decides
+pub mod Entry

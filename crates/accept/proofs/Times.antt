@@ -9,9 +9,10 @@ use native.Mathlib.Nat.{le_refl, add-zero, add-suc, not-suc-le-zero, eq-or-lt_of
 use native.Mathlib.Omega.{arith}
 use lib.Dec.{eqb}
 use lib.ListN.{length, get_or, take}
+use Rattle.std.proofs.Math.Seq.{take-length}
 use borrow.Author.Tests.{eq-eqb, ne_eqb}
 use Rattle.tree.specs.Accepted.{times}
-use Rattle.accept.specs.Inner.{Once}
+use Rattle.accept.specs.Inner.{EachOnce}
 
 -- ---- one entry more
 pub times_more : (i : ℕ) (l : List ℕ) (k : ℕ) → k < length l → times i (take (suc k) l) ≡ times i (take k l) + cond (eqb i (get_or l k 0)) 1 0
@@ -68,17 +69,20 @@ sum-full f (suc n) h e i g =
     ]
 
 -- ---- what the test comes to
-pub all_once : (l : List ℕ) (n : ℕ) → n ≤ length l → ((k : ℕ) → k < n → get_or l k 0 < n) → ((i : ℕ) → i < n → times i (take n l) ≤ 1) → Once l n
-all_once l n h b o = record { below = b; once = sum-full (λ i. times i (take n l)) n o (sum-times l n n h b) }
+pub all_once : (l : List ℕ) → ((k : ℕ) → k < length l → get_or l k 0 < length l) → ((i : ℕ) → i < length l → times i (take (length l) l) ≤ 1) → EachOnce l
+all_once l b o = record {
+  below = b;
+  once = λ i g. ap (times i) (sym (take-length l)) ∙ sum-full (λ i. times i (take (length l) l)) (length l) o (sum-times l (length l) (length l) (le_refl (length l)) b) i g;
+}
 
-pub twice : (l : List ℕ) (n k : ℕ) → n ≤ length l → k < n → times (get_or l k 0) (take k l) ≡ 1 → Once l n → ⊥
-twice l n k h g t o =
+pub twice : (l : List ℕ) (k : ℕ) → k < length l → times (get_or l k 0) (take k l) ≡ 1 → EachOnce l → ⊥
+twice l k g t o =
     let i = get_or l k 0 in
     let e : ◌≡◌ {A = ℕ} (cond (eqb i i) 1 0) 1 = rw (eq-eqb i i refl) in
-    let m = times_grow i l (suc k) (n - suc k) (omega arith) in
-    let p : times i (take (suc k + (n - suc k)) l) ≡ times i (take n l) = ap (λ (z : ℕ). times i (take z l)) (back n (suc k) g) in
-    let q : 2 ≤ times i (take n l) = omega (arith, times_more i l k (omega arith)) in
-    absurd (no (times i (take n l)) q (o.once i (o.below k g)))
+    let m = times_grow i l (suc k) (length l - suc k) (omega arith) in
+    let p : times i (take (suc k + (length l - suc k)) l) ≡ times i l = ap (λ (z : ℕ). times i (take z l)) (back (length l) (suc k) g) ∙ ap (times i) (take-length l) in
+    let q : 2 ≤ times i l = omega (arith, times_more i l k (omega arith)) in
+    absurd (no (times i l) q (o.once i (o.below k g)))
   where
     back : (a b : ℕ) → b ≤ a → b + (a - b) ≡ a
     back a b h = omega arith

@@ -1,11 +1,13 @@
 // The tight box of some points by numeric order, and its test against a node's box.
-ghost use Rattle.std.specs.Prelude.{◌≡◌, ◌/◌, ◌<◌, ◌≤◌, length, get_or};
-ghost use Rattle.accept.specs.Inner.{low_of, high_of, joined, dot, inside, fits, Tight, Ready};
+ghost use Rattle.std.specs.Prelude.{◌≡◌, ◌<◌, ◌≤◌};
+ghost use Rattle.tree.specs.Accepted.{count};
+ghost use Rattle.accept.specs.Inner.{low_of, high_of, spans, Tight, Ready};
 
-use distance::Bounds;
+use distance::{Bounds, Coord};
+use tree::{Node, Tree};
 
 // The least and the greatest of each coordinate.
-#[derive(Clone, Copy)]
+#[derive(Clone, Copy, Debug, PartialEq)]
 pub struct Extent {
     pub min_x: f64,
     pub max_x: f64,
@@ -14,6 +16,7 @@ pub struct Extent {
 }
 
 // The lower of two numbers.
+// Kept: std's `min` and `max` leave open which zero they give, and test for a NaN at each point.
 fn low_of(a: f64, b: f64) -> f64
     ensures { result ≡ low_of a b }
 {
@@ -27,70 +30,71 @@ fn high_of(a: f64, b: f64) -> f64
     if a < b { b } else { a }
 }
 
-// The tight box of what two boxes are tight around.
-pub fn joined(s: Extent, t: Extent) -> Extent
-    ensures { result ≡ joined s t }
-{
-    Extent {
-        min_x: low_of(s.min_x, t.min_x),
-        max_x: high_of(s.max_x, t.max_x),
-        min_y: low_of(s.min_y, t.min_y),
-        max_y: high_of(s.max_y, t.max_y),
-    }
-}
-
-// The box of the point whose index stands at k.
-fn dot(points: &[f64], indices: &[u32], k: usize) -> Extent
-    requires k_in_bounds { k < length indices.now }
-    requires k_in_bounds_2 { get_or indices.now k 0 < length points.now / 2 }
-    ensures { result ≡ dot points.now indices.now k }
-{
-    let i = indices[k] as usize;
-    let px = points[2 * i];
-    let py = points[2 * i + 1];
-    Extent {
-        min_x: px,
-        max_x: px,
-        min_y: py,
-        max_y: py,
-    }
-}
-
-// The tight box of the points from start to end.
-pub fn leaf_box(points: &[f64], indices: &[u32], start: usize, end: usize) -> Extent
-    requires ready { Ready points.now indices.now }
-    requires start_lt_end { (start < end) × (end ≤ length points.now / 2) }
-    ensures { Tight points.now indices.now start end result }
-{
-    let mut s = dot(points, indices, start);
-    let mut k = start + 1;
-    while k < end {
-        s = joined(s, dot(points, indices, k));
-        k += 1;
-    }
-    s
-}
-
 // Both ends of a node's box are finite, and what is from low to high lies between them.
-fn inside(min: f64, max: f64, low: f64, high: f64) -> bool
-    ensures { result ≡ inside min max low high }
+fn spans(min: f64, max: f64, low: f64, high: f64) -> bool
+    ensures { result ≡ spans min max low high }
 {
-    if !distance::is_finite(min) {
-        return false;
-    }
-    if !distance::is_finite(max) {
-        return false;
-    }
-    if min <= low { high <= max } else { false }
+    distance::is_finite(min) && distance::is_finite(max) && min <= low && high <= max
 }
 
-// The node's box b is finite and holds all that s is tight around.
-pub fn fits(b: Bounds, s: Extent) -> bool
-    ensures { result ≡ fits b s }
-{
-    if inside(b.min_x, b.max_x, s.min_x, s.max_x) {
-        inside(b.min_y, b.max_y, s.min_y, s.max_y)
-    } else {
-        false
+impl Extent {
+    ghost use Rattle.accept.specs.Inner.{joined, dot, fits, inside};
+
+    // The box of the point whose index stands at k.
+    fn of_entry(tree: &Tree, k: usize) -> Self
+        requires ready { Ready tree.now }
+        requires within { k < count tree.now }
+        ensures { result ≡ dot tree.now k }
+    {
+        let i = tree.indices()[k] as usize;
+        let x = tree.points()[2 * i];
+        let y = tree.points()[2 * i + 1];
+        Extent {
+            min_x: x,
+            max_x: x,
+            min_y: y,
+            max_y: y,
+        }
+    }
+
+    // The tight box of the points under a leaf.
+    pub fn of_leaf(tree: &Tree, leaf: Node) -> Self
+        requires ready { Ready tree.now }
+        requires some { leaf.start < leaf.end }
+        requires within { leaf.end ≤ count tree.now }
+        ensures { Tight tree.now leaf.start leaf.end result }
+    {
+        let mut extent = Extent::of_entry(tree, leaf.start);
+        for k in leaf.start + 1..leaf.end {
+            extent = extent.joined(Extent::of_entry(tree, k));
+        }
+        extent
+    }
+
+    // The tight box of what two boxes are tight around.
+    pub fn joined(self, other: Extent) -> Self
+        ensures { result ≡ joined self other }
+    {
+        Extent {
+            min_x: low_of(self.min_x, other.min_x),
+            max_x: high_of(self.max_x, other.max_x),
+            min_y: low_of(self.min_y, other.min_y),
+            max_y: high_of(self.max_y, other.max_y),
+        }
+    }
+
+    // Whether a node's box is finite and holds it.
+    fn fits(self, b: Bounds) -> bool
+        ensures { result ≡ fits b self }
+    {
+        spans(b.min_x, b.max_x, self.min_x, self.max_x)
+            && spans(b.min_y, b.max_y, self.min_y, self.max_y)
+    }
+
+    // Itself, if a node's box is finite and holds it.
+    pub fn inside(self, b: Bounds) -> Option<Self>
+        ensures { result ≡ inside b self }
+    {
+        if self.fits(b) { Some(self) } else { None }
     }
 }

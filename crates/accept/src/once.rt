@@ -1,29 +1,26 @@
-// Whether each of 0 to n - 1 stands once in the first n entries: n entries below n, none twice.
-ghost use Rattle.std.specs.Prelude.{◌≤◌, length};
+// Whether a list of n numbers has each of 0 to n - 1 once: all are below n, and none stands there twice.
+ghost use Rattle.std.specs.Prelude.{◌↔◌, ◌≤◌, length, IsTrue};
 ghost use Rattle.tree.specs.Points.{limit};
-ghost use Rattle.accept.specs.Inner.{Once, Tells};
+ghost use Rattle.accept.specs.Inner.{EachOnce};
 
-// By a set of bits, one for each number below n: 16,384 words hold the limit of 1,048,576.
-pub fn each_once(indices: &[u32], n: usize) -> bool
-    requires { (n ≤ limit) × (n ≤ length indices.now) }
-    ensures { Tells result (Once indices.now n) }
+// The words of a set of bits, one for each number below the limit.
+const WORDS: usize = tree::MAX_POINTS / 64;
+
+pub fn each_once(indices: &[u32]) -> bool
+    requires { length indices.now ≤ limit }
+    ensures { IsTrue result ↔ EachOnce indices.now }
 {
-    let mut seen = [0u64; 16384];
-    let mut k: usize = 0;
-    while k < n {
-        let i = indices[k] as usize;
-        if i >= n {
+    let mut seen = [0u64; WORDS];
+    for &index in indices {
+        let i = index as usize;
+        if i >= indices.len() {
             return false;
         }
-        let w = i / 64;
-        let s = i % 64;
-        let old = seen[w];
-        let is_seen = (old >> s) % 2 == 1;
+        let is_seen = (seen[i / 64] >> (i % 64)) % 2 == 1;
         if is_seen {
             return false;
         }
-        seen[w] = old | (1u64 << s);
-        k += 1;
+        seen[i / 64] |= 1u64 << (i % 64);
     }
     true
 }

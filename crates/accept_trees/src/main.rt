@@ -1,12 +1,13 @@
-// Checks a good tree, and the same tree with one field changed at a time; writes a line for each: the case, and the number
-// (0: accepted) and the detail that the check answers.
+//! Checks a good tree, and the same tree with one field changed at a time; writes a line for each: the case, and the number
+//! (0: accepted) and the detail that the check answers.
 #![tactic(auto)]
 
-use accept::Checked;
+use refusal::Refusal;
 use std::io;
+use tree::Tree;
 
 // What is changed: a value at a place of one of the four slices, or how much of one of them is lent.
-#[derive(Clone, Copy)]
+#[derive(Clone, Copy, Debug, PartialEq)]
 enum Change {
     Nothing,
     Point(usize, f64),
@@ -17,89 +18,6 @@ enum Change {
     Indices(usize),
     Boxes(usize),
     Links(usize),
-}
-
-// The cases. A node v has its box at 6 * v + 2 to 6 * v + 5 (min x, max x, min y, max y), and start, end, left and right from 4 * v.
-fn change_of(case: u32) -> Change {
-    let infinity = 1.0 / 0.0;
-    let nan = 0.0 / 0.0;
-    match case {
-        // accepted: what is changed is not asked about
-        0 => Change::Nothing,
-        1 => Change::Bound(0, nan),
-        2 => Change::Bound(13, infinity),
-        3 => Change::Bound(20, infinity),
-        4 => Change::Link(12, 7),
-        5 => Change::Index(5, 0),
-        6 => Change::Indices(5),
-        // accepted: a box wider than its points, an end that is the point as a number, a point moved inside its boxes
-        7 => Change::Bound(2, -100.0),
-        8 => Change::Bound(27, -0.0),
-        9 => Change::Point(0, -1.0),
-        // accepted: no points, whatever else there is
-        10 => Change::Points(0),
-        // an odd number of coordinates; points that are not finite
-        11 => Change::Points(9),
-        12 => Change::Point(0, -infinity),
-        13 => Change::Point(2, infinity),
-        14 => Change::Point(5, nan),
-        // points fewer than the nodes say; a point moved out of its box
-        15 => Change::Points(8),
-        16 => Change::Point(8, 1.5),
-        // indices: one entry short, one not below n, one twice
-        17 => Change::Indices(4),
-        18 => Change::Index(1, 5),
-        19 => Change::Index(1, 3),
-        // node 5, or all of them, not whole in a slice
-        20 => Change::Boxes(35),
-        21 => Change::Links(23),
-        22 => Change::Boxes(0),
-        23 => Change::Links(0),
-        // node 0 does not cover 0 to n; a half is off by one, empty, or upside down
-        24 => Change::Link(0, 1),
-        25 => Change::Link(1, 4),
-        26 => Change::Link(17, 3),
-        27 => Change::Link(8, 3),
-        28 => Change::Link(17, 0),
-        29 => Change::Link(4, 4_294_967_295),
-        // one child zero, at a branch and at a leaf; a child that covers another part, or is past the slices
-        30 => Change::Link(2, 0),
-        31 => Change::Link(3, 0),
-        32 => Change::Link(18, 5),
-        33 => Change::Link(3, 4),
-        34 => Change::Link(2, 6),
-        35 => Change::Link(2, 4_294_967_295),
-        // an end of a box past a point of its part, at the root, at a branch and at a leaf
-        36 => Change::Bound(2, -2.5),
-        37 => Change::Bound(15, 5.5),
-        38 => Change::Bound(10, 4.5),
-        39 => Change::Bound(35, -2.5),
-        // an end that is not finite
-        40 => Change::Bound(11, infinity),
-        41 => Change::Bound(16, -infinity),
-        42 => Change::Bound(32, nan),
-        _ => Change::Nothing,
-    }
-}
-
-fn put_float(s: &mut [f64], at: usize, v: f64) {
-    if at < s.len() {
-        s[at] = v;
-    }
-}
-
-fn put_word(s: &mut [u32], at: usize, v: u32) {
-    if at < s.len() {
-        s[at] = v;
-    }
-}
-
-fn first_floats<'a>(s: &'a [f64], len: usize) -> &'a [f64] {
-    if len < s.len() { &s[0..len] } else { &s[0..] }
-}
-
-fn first_words<'a>(s: &'a [u32], len: usize) -> &'a [u32] {
-    if len < s.len() { &s[0..len] } else { &s[0..] }
 }
 
 // The good tree: five points and six nodes. The children of node 0 are 4 and 2, those of node 2 are 5 and 1; node 3 is not reached.
@@ -137,66 +55,102 @@ const LINKS: [u32; 24] = [
     2, 3, 0, 0,
 ];
 
+// The cases. A node v has its box at 6 * v + 2 to 6 * v + 5 (min x, max x, min y, max y), and start, end, left and right from 4 * v.
+const CHANGES: [Change; 43] = [
+    // accepted: what is changed is not asked about
+    Change::Nothing,
+    Change::Bound(0, f64::NAN),
+    Change::Bound(13, f64::INFINITY),
+    Change::Bound(20, f64::INFINITY),
+    Change::Link(12, 7),
+    Change::Index(5, 0),
+    Change::Indices(5),
+    // accepted: a box wider than its points, an end that is the point as a number, a point moved inside its boxes
+    Change::Bound(2, -100.0),
+    Change::Bound(27, -0.0),
+    Change::Point(0, -1.0),
+    // accepted: no points, whatever else there is
+    Change::Points(0),
+    // an odd number of coordinates; points that are not finite
+    Change::Points(9),
+    Change::Point(0, f64::NEG_INFINITY),
+    Change::Point(2, f64::INFINITY),
+    Change::Point(5, f64::NAN),
+    // points fewer than the nodes say; a point moved out of its box
+    Change::Points(8),
+    Change::Point(8, 1.5),
+    // indices: one entry short, one not below n, one twice
+    Change::Indices(4),
+    Change::Index(1, 5),
+    Change::Index(1, 3),
+    // node 5, or all of them, not whole in a slice
+    Change::Boxes(35),
+    Change::Links(23),
+    Change::Boxes(0),
+    Change::Links(0),
+    // node 0 does not cover 0 to n; a half is off by one, empty, or upside down
+    Change::Link(0, 1),
+    Change::Link(1, 4),
+    Change::Link(17, 3),
+    Change::Link(8, 3),
+    Change::Link(17, 0),
+    Change::Link(4, u32::MAX),
+    // one child zero, at a branch and at a leaf; a child that covers another part, or is past the slices
+    Change::Link(2, 0),
+    Change::Link(3, 0),
+    Change::Link(18, 5),
+    Change::Link(3, 4),
+    Change::Link(2, 6),
+    Change::Link(2, u32::MAX),
+    // an end of a box past a point of its part, at the root, at a branch and at a leaf
+    Change::Bound(2, -2.5),
+    Change::Bound(15, 5.5),
+    Change::Bound(10, 4.5),
+    Change::Bound(35, -2.5),
+    // an end that is not finite
+    Change::Bound(11, f64::INFINITY),
+    Change::Bound(16, f64::NEG_INFINITY),
+    Change::Bound(32, f64::NAN),
+];
+
+fn put<T: Copy>(s: &mut [T], at: usize, value: T) {
+    if let Some(entry) = s.get_mut(at) {
+        *entry = value;
+    }
+}
+
+fn first<T>(s: &[T], len: usize) -> &[T] {
+    s.get(..len).unwrap_or(s)
+}
+
 // The answer over the tree with the change.
-fn answer(c: Change) -> Checked {
+fn answer(change: Change) -> Result<(), Refusal> {
     let mut points = POINTS;
     let mut indices = INDICES;
     let mut boxes = BOXES;
     let mut links = LINKS;
-    match c {
-        Change::Nothing => accept::check_tree(&points, &indices, &boxes, &links),
-        Change::Point(at, v) => {
-            put_float(&mut points, at, v);
-            accept::check_tree(&points, &indices, &boxes, &links)
-        }
-        Change::Index(at, v) => {
-            put_word(&mut indices, at, v);
-            accept::check_tree(&points, &indices, &boxes, &links)
-        }
-        Change::Bound(at, v) => {
-            put_float(&mut boxes, at, v);
-            accept::check_tree(&points, &indices, &boxes, &links)
-        }
-        Change::Link(at, v) => {
-            put_word(&mut links, at, v);
-            accept::check_tree(&points, &indices, &boxes, &links)
-        }
-        Change::Points(len) => accept::check_tree(
-            first_floats(&points, len),
-            &indices,
-            &boxes,
-            &links,
-        ),
-        Change::Indices(len) => accept::check_tree(
-            &points,
-            first_words(&indices, len),
-            &boxes,
-            &links,
-        ),
-        Change::Boxes(len) => accept::check_tree(
-            &points,
-            &indices,
-            first_floats(&boxes, len),
-            &links,
-        ),
-        Change::Links(len) => accept::check_tree(
-            &points,
-            &indices,
-            &boxes,
-            first_words(&links, len),
-        ),
+    match change {
+        Change::Point(at, value) => put(&mut points, at, value),
+        Change::Index(at, value) => put(&mut indices, at, value),
+        Change::Bound(at, value) => put(&mut boxes, at, value),
+        Change::Link(at, value) => put(&mut links, at, value),
+        _ => {}
     }
-}
-
-fn say(rt: &impl Print, case: u32, number: u32, detail: u32) -> io::Result<()> {
-    println!(rt; "{case}: {number} {detail}")
+    let tree = match change {
+        Change::Points(len) => Tree::new(first(&points, len), &indices, &boxes, &links),
+        Change::Indices(len) => Tree::new(&points, first(&indices, len), &boxes, &links),
+        Change::Boxes(len) => Tree::new(&points, &indices, first(&boxes, len), &links),
+        Change::Links(len) => Tree::new(&points, &indices, &boxes, first(&links, len)),
+        _ => Tree::new(&points, &indices, &boxes, &links),
+    };
+    accept::check_tree(&tree)
 }
 
 fn main(rt: HostRuntime) -> io::Result<()> {
-    for case in 0..43 {
-        match answer(change_of(case)) {
-            Checked::Accepted => say(&rt, case, 0, 0)?,
-            Checked::Refused(number, detail) => say(&rt, case, number, detail)?,
+    for (case, &change) in CHANGES.iter().enumerate() {
+        match answer(change) {
+            Ok(()) => println!(&rt; "{case}: 0 0")?,
+            Err(refusal) => println!(&rt; "{case}: {} {}", refusal.number(), refusal.detail())?,
         }
     }
     Ok(())

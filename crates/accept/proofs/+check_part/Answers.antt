@@ -1,54 +1,43 @@
--- `accept::check_part` meets its contract. The measure is the number of entries. Assumes nothing.
-use mathlib.Core.Path.{sym, ◌∙◌, subst}
-use Rattle.tree.specs.Node.{mid}
-use Rattle.tree.specs.Accepted.{tree}
-use Rattle.tree.proofs.ChildNumbers.{branch-size}
-use Rattle.accept.specs.Inner.{Says}
-use Rattle.accept.proofs.Nodes.{not_whole, says-damaged, says-left, says-right, kind-leaf, at_leaf, at-branch}
-use native.Mathlib.Omega.{arith}
+-- `accept::check_part` meets its contract, way by way. Assumes nothing.
+use Rattle.std.proofs.Common.{sym, ◌∙◌}
+use Rattle.accept.proofs.Nodes.{Found, found-damaged, found-left, found-right, found-leaf, found-branch, kind-leaf}
 use Rattle.accept.proofs.+check_part.Goals as goal
+use Rattle.accept.proofs.+check_part.Goals.{After-check_part, After-check_part-2}
+
+-- what the calls for the two halves have found
+found_low : (t : _) (c : After-check_part t) → Found c.args.tree.now c.left.result c.check_part.result
+found_low t c = record { sound = c.check_part.ensures.sound; tight = c.check_part.ensures.tight }
+
+found_high : (t : _) (c : After-check_part-2 t) → Found c.args.tree.now c.right.result c.check_part-2.result
+found_high t c = record { sound = c.check_part-2.ensures.sound; tight = c.check_part-2.ensures.tight }
 
 pub returns-in-Damaged : goal.returns-in-Damaged
 returns-in-Damaged t c =
-    let a = c.args in
-    says-damaged (let a = c.args in tree a.points.now a.indices.now a.boxes.now a.links.now) a.node a.start a.end (sym c.kind_at-k.ensures ∙ c.in-Damaged.is)
+    let f = found-damaged c.args.tree.now c.args.node (sym c.kind-kind.ensures ∙ c.in-Damaged.is) in
+    record { sound = f.sound; tight = f.tight }
 
-pub returns-in_default-k : goal.returns-in_default-k
-returns-in_default-k t c =
-    let a = c.args in
-    let w = c.bounds_at-b in
-    let l = c.leaf_box in
-    at_leaf (let a = c.args in tree a.points.now a.indices.now a.boxes.now a.links.now) a.node a.start a.end c.tested.result w.result w.ensures l.result c.tested.ensures
-    (sym c.kind_at-k.ensures ∙ kind-leaf c.kind_at-k.result c.in_default.not-Damaged c.in_default-k.not-Branch) l.ensures
+pub returns-in_default-kind : goal.returns-in_default-kind
+returns-in_default-kind t c =
+    let k = sym c.kind-kind.ensures ∙ kind-leaf c.kind-kind.result c.in_default.not-Damaged c.in_default-kind.not-Branch in
+    let f = found-leaf c.args.tree.now c.args.node k c.of_leaf.result c.of_leaf.ensures in
+    rw (c.inside.ensures, c.bounds-bounds.ensures) (record { sound = f.sound; tight = f.tight })
 
-pub check_part-requires : goal.check_part-requires
-check_part-requires t c =
-    let a = c.args in
-    let p = c.requires in
-    let h = branch-size a.boxes.now a.links.now a.node a.start a.end _ _ (sym c.kind_at-k.ensures ∙ c.in-Branch.is) in
-    (omega (arith, c.decreases), (p.ready, (omega arith, omega arith)))
+pub returns-in_err-low : goal.returns-in_err-low
+returns-in_err-low t c =
+    let k = sym c.kind-kind.ensures ∙ c.in-Branch.is in
+    let f = found-left c.args.tree.now c.args.node _ _ k _ c.check_part.result c.in_err-low.was (rw c.left.ensures at (found_low t (goal.at.returns-in_err-low t c).After-check_part)) in
+    rw c.from_residual.ensures (record { sound = f.sound; tight = f.tight })
 
-pub returns-in_default-check_part : goal.returns-in_default-check_part
-returns-in_default-check_part t c =
-    let a = c.args in
-    says-left (let a = c.args in tree a.points.now a.indices.now a.boxes.now a.links.now) a.node a.start a.end _ _ (sym c.kind_at-k.ensures ∙ c.in-Branch.is) (subst (Says (let a = c.args in tree a.points.now a.indices.now a.boxes.now a.links.now) _ a.start (mid a.start a.end)) (not_whole c.check_part.result c.in_default-check_part.not-Whole) c.check_part.ensures)
-
-pub check_part-requires-2 : goal.check_part-requires-2
-check_part-requires-2 t c =
-    let a = c.args in
-    let p = c.requires in
-    let h = branch-size a.boxes.now a.links.now a.node a.start a.end _ _ (sym c.kind_at-k.ensures ∙ c.in-Branch.is) in
-    (omega (arith, c.decreases), (p.ready, (omega arith, omega arith)))
-
-pub returns-in_default-check_part-2 : goal.returns-in_default-check_part-2
-returns-in_default-check_part-2 t c =
-    let a = c.args in
-    says-right (let a = c.args in tree a.points.now a.indices.now a.boxes.now a.links.now) a.node a.start a.end _ _ (sym c.kind_at-k.ensures ∙ c.in-Branch.is) (subst (Says (let a = c.args in tree a.points.now a.indices.now a.boxes.now a.links.now) _ (mid a.start a.end) a.end) (not_whole c.check_part-2.result c.in_default-check_part-2.not-Whole) c.check_part-2.ensures)
+pub returns-in_err-high : goal.returns-in_err-high
+returns-in_err-high t c =
+    let k = sym c.kind-kind.ensures ∙ c.in-Branch.is in
+    let f = found-right c.args.tree.now c.args.node _ _ k c.check_part.result _ c.in_err-high.was (rw c.right.ensures at (found_high t (goal.at.returns-in_err-high t c).After-check_part-2)) in
+    rw c.from_residual-in_err-high.ensures (record { sound = f.sound; tight = f.tight })
 
 pub returns : goal.returns
 returns t c =
-    let w = c.bounds_at-b in
-    let a = c.args in
-    let p = c.requires in
-    at-branch (let a = c.args in tree a.points.now a.indices.now a.boxes.now a.links.now) a.node a.start a.end c.tested-2.result w.result w.ensures _ _ (sym c.kind_at-k.ensures ∙ c.in-Branch.is) p.ready p.start_lt_end.1 _ _ c.joined.result c.joined.ensures c.tested-2.ensures
-    c.check_part.result c.check_part-2.result c.in-Whole.is c.in-Whole-check_part.is c.check_part.ensures c.check_part-2.ensures
+    let k = sym c.kind-kind.ensures ∙ c.in-Branch.is in
+    let p = rw c.left.ensures at (found_low t (goal.at.returns t c).After-check_part) in
+    let q = rw c.right.ensures at (found_high t (goal.at.returns t c).After-check_part-2) in
+    let f = found-branch c.args.tree.now c.args.node _ _ k _ _ c.requires.ready c.requires.within _ _ c.in_ok-low.was c.in_ok-high.was p q in
+    rw (c.inside-2.ensures, c.joined.ensures, c.bounds-bounds.ensures) (record { sound = f.sound; tight = f.tight })

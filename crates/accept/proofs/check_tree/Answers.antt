@@ -1,58 +1,32 @@
--- `accept::check_tree` meets its contract, answer by answer. Assumes nothing.
-use mathlib.Core.Path.{◌≡◌, subst}
-use mathlib.Core.Bool.{Bool, true, false}
-use native.Mathlib.Nat.{pos_of_ne-zero}
-use native.Mathlib.Omega.{arith}
-use Rattle.tree.specs.Accepted.{tree, count}
-use Rattle.accept.specs.Inner.{Says, Once, Tells}
-use Rattle.accept.proofs.Entry.{says-odd, says-many, Searched, says-not_finite, says_none, says-short, says_twice, says-damage, ready, says_grown}
-use Rattle.accept.proofs.Nodes.{whole-sound}
+-- `accept::check_tree` meets its contract: refused for its points, accepted, or damaged. Assumes nothing.
+use Rattle.std.proofs.Common.{sym, ◌∙◌}
+use mathlib.Core.Logic.{inl, inr}
+use borrow.Author.Tests.{eqb-true, eqb-false}
+use Rattle.std.proofs.lemmas.Result.{err_from_is_err_and}
+use Rattle.accept.proofs.Entry.{answered-points, usable_points, answered-accepted, answered-damaged}
 use Rattle.accept.proofs.check_tree.Goals as goal
-use Rattle.accept.proofs.check_tree.Goals.{After-each_once, After-first_bad-bad}
+use Rattle.accept.proofs.check_tree.Goals.{then-is_empty, else-is_empty}
 
-searched : (c : After-first_bad-bad) → Searched (let a = c.args in tree a.points.now a.indices.now a.boxes.now a.links.now) c.first_bad-bad.result
-searched c = record { even = c.if-points-eq1.false; in_limit = c.if-n-gt1048576.false; first = c.first_bad-bad.ensures }
+pub returns-in_err-check_points : goal.returns-in_err-check_points
+returns-in_err-check_points c =
+    let p = err_from_is_err_and c.from_residual.result c.from_residual.ensures.1 in
+    let a = answered-points c.args.tree.now _ (rw (c.points.ensures, c.in_err-check_points.was) at c.check_points.ensures) in
+    rw (p.1, p.2) (record { lowest = a.lowest; accepted = a.accepted })
 
--- what the permutation test has shown
-once : (c : After-each_once) (b : Bool) → c.each_once.result ≡ b → Tells b (Once (let a = c.args in tree a.points.now a.indices.now a.boxes.now a.links.now).indices (count (let a = c.args in tree a.points.now a.indices.now a.boxes.now a.links.now)))
-once c b e = subst (λ (z : Bool). Tells z (Once (let a = c.args in tree a.points.now a.indices.now a.boxes.now a.links.now).indices (count (let a = c.args in tree a.points.now a.indices.now a.boxes.now a.links.now)))) e c.each_once.ensures
+pub returns-then-is_grown : goal.returns-then-is_grown
+returns-then-is_grown c =
+    let u = usable_points c.args.tree.now _ (rw (c.points.ensures, c.in_ok-check_points.was) at c.check_points.ensures) in
+    let a = answered-accepted c.args.tree.now u (elim c.if-is_empty.branch [
+      | then-is_empty w ↦ inl (eqb-true _ _ (sym w.if-is_empty.ensures))
+      | else-is_empty w ↦ inr (w.is_grown.ensures.0 (sym w.value-is ∙ c.if-is_grown.true))
+    ]) in
+    record { lowest = a.lowest; accepted = a.accepted }
 
-pub returns-then-points-eq1 : goal.returns-then-points-eq1
-returns-then-points-eq1 c =
-    let a = c.args in
-    says-odd (tree a.points.now a.indices.now a.boxes.now a.links.now) c.if-points-eq1.true
-
-pub returns-then-n-gt1048576 : goal.returns-then-n-gt1048576
-returns-then-n-gt1048576 c =
-    let a = c.args in
-    says-many (tree a.points.now a.indices.now a.boxes.now a.links.now) c.if-points-eq1.false c.if-n-gt1048576.true
-
-pub returns-then-bad-n : goal.returns-then-bad-n
-returns-then-bad-n c = says-not_finite (let a = c.args in tree a.points.now a.indices.now a.boxes.now a.links.now) c.first_bad-bad.result (searched (goal.at.returns-then-bad-n c).After-first_bad-bad) c.if-bad-n.true
-
-pub returns-then-n-eq0 : goal.returns-then-n-eq0
-returns-then-n-eq0 c = says_none (let a = c.args in tree a.points.now a.indices.now a.boxes.now a.links.now) c.first_bad-bad.result (searched (goal.at.returns-then-n-eq0 c).After-first_bad-bad) c.if-bad-n.false c.if-n-eq0.true
-
-pub returns-then-indices-n : goal.returns-then-indices-n
-returns-then-indices-n c =
-    says-short (let a = c.args in tree a.points.now a.indices.now a.boxes.now a.links.now) c.first_bad-bad.result (searched (goal.at.returns-then-indices-n c).After-first_bad-bad) c.if-bad-n.false c.if-n-eq0.false c.if-indices-n.true
-
-pub returns-then-not-each_once : goal.returns-then-not-each_once
-returns-then-not-each_once c =
-    says_twice (let a = c.args in tree a.points.now a.indices.now a.boxes.now a.links.now) c.first_bad-bad.result (searched (goal.at.returns-then-not-each_once c).After-first_bad-bad) c.if-bad-n.false c.if-n-eq0.false (once (goal.at.returns-then-not-each_once c).After-each_once false (c.if-not-each_once.true))
-
-pub check_part-r-requires : goal.check_part-r-requires
-check_part-r-requires c =
-    (record {
-      ready = ready (let a = c.args in tree a.points.now a.indices.now a.boxes.now a.links.now) c.first_bad-bad.result (searched (goal.at.check_part-r-requires c).After-first_bad-bad) c.if-bad-n.false c.if-n-eq0.false c.if-indices-n.false (once (goal.at.check_part-r-requires c).After-each_once true (c.if-not-each_once.false));
-      start_lt_end = (pos_of_ne-zero c.if-n-eq0.false, omega arith);
-    })
-
-pub returns-in-Damaged : goal.returns-in-Damaged
-returns-in-Damaged c =
-    says-damage (let a = c.args in tree a.points.now a.indices.now a.boxes.now a.links.now) c.first_bad-bad.result (searched (goal.at.returns-in-Damaged c).After-first_bad-bad) c.if-bad-n.false c.if-n-eq0.false (subst (Says (let a = c.args in tree a.points.now a.indices.now a.boxes.now a.links.now) 0 0 (count (let a = c.args in tree a.points.now a.indices.now a.boxes.now a.links.now))) c.in-Damaged.is c.check_part-r.ensures)
-
-pub returns : goal.returns
-returns c =
-    says_grown (let a = c.args in tree a.points.now a.indices.now a.boxes.now a.links.now) c.first_bad-bad.result (searched (goal.at.returns c).After-first_bad-bad) c.if-bad-n.false c.if-n-eq0.false c.if-indices-n.false (once (goal.at.returns c).After-each_once true (c.if-not-each_once.false))
-    (whole-sound (let a = c.args in tree a.points.now a.indices.now a.boxes.now a.links.now) 0 0 (count (let a = c.args in tree a.points.now a.indices.now a.boxes.now a.links.now)) c.check_part-r.result c.in_default.not-Damaged c.check_part-r.ensures)
+pub returns-else-is_grown : goal.returns-else-is_grown
+returns-else-is_grown c =
+    let u = usable_points c.args.tree.now _ (rw (c.points.ensures, c.in_ok-check_points.was) at c.check_points.ensures) in
+    let a = answered-damaged c.args.tree.now u (λ g. elim c.if-is_empty.branch [
+      | then-is_empty w ↦ absurd cc
+      | else-is_empty w ↦ elim g [ inl z ↦ eqb-false _ _ (sym w.if-is_empty.ensures) z | inr g ↦ let h = w.is_grown.ensures.1 g in absurd cc ]
+    ]) in
+    record { lowest = a.lowest; accepted = a.accepted }
