@@ -24,7 +24,7 @@ use Rattle.tree.specs.Count.{leaf_of, nodes}
 use Rattle.tree.specs.declared.Kind.{Kind}
 use Rattle.tree.specs.declared.Kind.TheVariants.{Branch, Damaged}
 use Rattle.tree.specs.Node.{bounds, children, kind}
-use Rattle.tree.specs.Points.{size, x, y, AllFinite}
+use Rattle.tree.specs.Points.{size, x, y, AllFinite, Usable}
 use Rattle.select.proofs.Ranks.{finite_number}
 use Rattle.tree.proofs.Entries.{times_append, has_at}
 use Rattle.select.specs.Order.{coord}
@@ -33,7 +33,6 @@ use Rattle.build.proofs.Boxes.{coord-x}
 use Rattle.build.proofs.Numbering.{each_within, each-length}
 use Rattle.build.specs.Agree.{Held}
 use Rattle.build.specs.Built.{Tight, Box, BranchNode, Subtree, a_leaf, a_branch, Each, needed, Built}
-use Rattle.build.specs.Outcome.{Usable}
 
 -- ---- keys in order are numbers in order
 key-le : (x y : Float) → T (finite x) → T (finite y) → T (fits binary64 x) → T (fits binary64 y) → key x ≤ key y → T (le x y)

@@ -1,10 +1,12 @@
 -- The same entries have the same box; and what is asked of a part, entry by entry. Assumes nothing.
-use mathlib.Core.Path.{◌≡◌, refl, sym, ap}
+use mathlib.Core.Path.{◌≡◌, refl, sym, ap, ◌∙◌}
 use mathlib.Core.List.{List, [], ◌∷◌}
-use Prim.Native.Nat.{ℕ, zero, suc, ◌*◌, ◌<◌}
+use Prim.Native.Nat.{ℕ, zero, suc, ◌*◌, ◌+◌, ◌-◌, ◌<◌}
 use native.Mathlib.Nat.{not-suc-le-zero}
 use native.Mathlib.Omega.{arith}
-use lib.ListN.{get_or, length, take}
+use lib.ListN.{get_or, length, take, drop, length-drop}
+use lib.Seq.{get_or-drop}
+use Rattle.select.proofs.Parting.{mid-all}
 use lib.Ieee.{Float, nan}
 use Rattle.tree.specs.Points.{size}
 use Rattle.tree.proofs.Entries.{has_at, Place, place, same_sym, from}
@@ -45,6 +47,17 @@ box-same points xs ys own p b = record { six = b.six; x = tight_same points 0 xs
 -- ---- what is asked of a part
 pub ready_index : (points : List Float) (part : List ℕ) → Ready points part → (k : ℕ) → k < length part → get_or part k 0 < size points
 ready_index points part r k h = r.within (get_or part k 0) (has_at part k h)
+
+-- what comes after the first entry
+pub rest_at : (part : List ℕ) (k : ℕ) → get_or (take (length part - 1) (drop 1 part)) k 0 ≡ get_or part (k + 1) 0
+rest_at part k = ap (λ (l : List ℕ). get_or l k 0) (mid-all 1 part) ∙ get_or-drop 1 part k 0 ∙ ap (λ (j : ℕ). get_or part j 0) (omega arith)
+
+pub rest-in : (part : List ℕ) (k : ℕ) → k < length (take (length part - 1) (drop 1 part)) → k + 1 < length part
+rest-in part k h = omega (arith, ap length (mid-all 1 part), length-drop 1 part)
+
+pub ready_rest : (points : List Float) (part : List ℕ) → Ready points part → (k : ℕ) → k < length (take (length part - 1) (drop 1 part))
+    → get_or (take (length part - 1) (drop 1 part)) k 0 < size points
+ready_rest points part r k h = rw (rest_at part k) (ready_index points part r (k + 1) (rest-in part k h))
 
 pub coord-x : (points : List Float) (v : ℕ) → get_or points (2 * v) nan ≡ coord points 0 v
 coord-x points v = ap (λ (j : ℕ). get_or points j nan) (omega arith)

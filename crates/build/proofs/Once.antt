@@ -3,20 +3,23 @@
 -- By cases on the rows, each of which rules out the others. Assumes nothing.
 use mathlib.Core.Path.{◌≡◌, refl, sym, ◌∙◌, ap}
 use mathlib.Core.Logic.{◌⊎◌, inl, inr}
-use mathlib.Core.Bool.{Bool, true, false}
+use mathlib.Core.Bool.{Bool, true, false, cond}
+use lib.Dec.{eqb}
 use mathlib.Core.List.{List}
 use Prim.Native.Nat.{ℕ, ◌<◌, ◌/◌}
 use native.Mathlib.Nat.{not-le_of_lt}
 use native.Mathlib.Omega.{arith}
 use lib.ListN.{length}
 use lib.Ieee.{Float}
-use Rattle.tree.specs.Points.{size, FirstBad}
+use Rattle.tree.specs.Points.{size, FirstBad, Usable}
 use Rattle.tree.specs.Accepted.{Tree, Accepted}
 use Rattle.tree.proofs.NotFinite.{first_bad_not, first_bad_unique, finite_at_of_all}
-use Rattle.build.specs.declared.Building.{Building}
-use Rattle.build.specs.declared.Building.TheVariants.{Nodes, Refused}
+use Rattle.std.specs.Prelude.{Result, Ok, Err}
+use Rattle.refusal.specs.Numbers.{Told, given, refused, told, number, detail}
+use Rattle.refusal.specs.declared.Refusal.{Refusal}
+use Rattle.refusal.specs.declared.Refusal.TheVariants.{OddCoordinates, TooManyPoints, PointNotFinite, PlaceNotFinite, RadiusNotValid, IndicesTooShort, NodesTooShort, NoRoom, DamagedTree, UnknownRecord}
 use Rattle.build.specs.Built.{needed, Built}
-use Rattle.build.specs.Outcome.{Told, made, refused, told, Usable, Given, Due, odd, many, not_finite, few_indices, few_nodes, allowed, Outcome}
+use Rattle.build.specs.Outcome.{Given, Due, odd, many, not_finite, few_indices, few_nodes, allowed, Outcome}
 use Rattle.build.specs.Agree.{Held, Agree}
 use Rattle.build.proofs.Outcomes.{true_false, given_of}
 use Rattle.build.proofs.Unique.{built_agree}
@@ -72,34 +75,54 @@ module _ (ls : ℕ) (points : List Float) (i b k : ℕ) where
   due-one (allowed g) (few_nodes u h s) = absurd (short g s)
   due-one (allowed g) (allowed h) = refl
 
--- two answers that tell the same are the same
-pub told-one : (r s : Building) → told r ≡ told s → r ≡ s
-told-one (Nodes k) (Nodes m) e = ap (λ (a : Told). Nodes a.nodes) e
-told-one (Nodes k) (Refused n d) e = absurd (true_false (ap (λ (a : Told). a.built) e))
-told-one (Refused n d) (Nodes k) e = absurd (true_false (sym (ap (λ (a : Told). a.built) e)))
-told-one (Refused n d) (Refused m c) e = ap (λ (a : Told). Refused a.number a.detail) e
+-- two answers that tell the same are the same: number and detail give back the refusal
+refusal_of : ℕ → ℕ → Refusal
+refusal_of n d =
+    cond (eqb n 1) OddCoordinates (cond (eqb n 2) TooManyPoints (cond (eqb n 3) (PointNotFinite d) (cond (eqb n 4) PlaceNotFinite (cond (eqb n 5) RadiusNotValid
+    (cond (eqb n 6) (IndicesTooShort d) (cond (eqb n 7) (NodesTooShort d) (cond (eqb n 8) (NoRoom d) (cond (eqb n 9) DamagedTree UnknownRecord))))))))
+
+same_refusal : (r : Refusal) → refusal_of (number r) (detail r) ≡ r
+unfolding refusal_of
+same_refusal OddCoordinates = refl
+same_refusal TooManyPoints = refl
+same_refusal (PointNotFinite i) = refl
+same_refusal PlaceNotFinite = refl
+same_refusal RadiusNotValid = refl
+same_refusal (IndicesTooShort n) = refl
+same_refusal (NodesTooShort n) = refl
+same_refusal (NoRoom n) = refl
+same_refusal DamagedTree = refl
+same_refusal UnknownRecord = refl
+
+pub told-one : (r s : Result ℕ Refusal) → told r ≡ told s → r ≡ s
+told-one (Ok k) (Ok m) e = ap (λ (a : Told). Ok a.count) e
+told-one (Ok k) (Err s) e = absurd (true_false (ap (λ (a : Told). a.given) e))
+told-one (Err r) (Ok m) e = absurd (true_false (sym (ap (λ (a : Told). a.given) e)))
+told-one (Err r) (Err s) e =
+    let p : r ≡ s = sym (same_refusal r) ∙ ap (λ (a : Told). refusal_of a.number a.detail) e ∙ same_refusal s in
+    ap (λ (x : Refusal). Err x) p
 
 module _ (ls : ℕ) (t₀ : Tree) where
   pub outcome-one : (a c : Told) (t u : Tree) → Outcome ls t₀ a t → Outcome ls t₀ c u → a ≡ c
   outcome-one a c t u o p = due-one ls t₀.points (length t₀.indices) (length t₀.boxes) (length t₀.links) o.due p.due
 
   pub outcome_agree : (a c : Told) (t u : Tree) → Held t₀.points → Outcome ls t₀ a t → Outcome ls t₀ c u → (t ≡ u) ⊎ Agree ls t u
-  outcome_agree a c t u H o p = go a.built refl
+  outcome_agree a c t u H o p = go a.given refl
     where
-      same : a.built ≡ c.built
-      same = ap (λ (z : Told). z.built) (outcome-one a c t u o p)
+      same : a.given ≡ c.given
+      same = ap (λ (z : Told). z.given) (outcome-one a c t u o p)
 
-      go : (b : Bool) → a.built ≡ b → (t ≡ u) ⊎ Agree ls t u
+      go : (b : Bool) → a.given ≡ b → (t ≡ u) ⊎ Agree ls t u
       go true e = inr (built_agree ls t₀ t u H (o.built e) (p.built (sym same ∙ e)))
       go false e = inl (o.kept e ∙ sym (p.kept (sym same ∙ e)))
 
   -- where nothing is refused, N(n) nodes are built
   pub outcome_finishes : (a : Told) (t : Tree) → Given ls t₀.points (length t₀.indices) (length t₀.boxes) (length t₀.links) → Outcome ls t₀ a t
-      → (a ≡ made (needed ls t₀.points)) × Built ls t₀ t
+      → (a ≡ given (needed ls t₀.points)) × Built ls t₀ t
   outcome_finishes a t g o =
-      let e : a ≡ made (needed ls t₀.points) = due-one ls t₀.points (length t₀.indices) (length t₀.boxes) (length t₀.links) o.due (allowed g) in
-      (e, o.built (ap (λ (z : Told). z.built) e))
+      let e : a ≡ given (needed ls t₀.points) = due-one ls t₀.points (length t₀.indices) (length t₀.boxes) (length t₀.links) o.due (allowed g) in
+      (e, o.built (ap (λ (z : Told). z.given) e))
 
-  pub outcome-accepted : (a : Told) (t : Tree) → Held t₀.points → Outcome ls t₀ a t → a.built ≡ true → Accepted t
+  pub outcome-accepted : (a : Told) (t : Tree) → Held t₀.points → Outcome ls t₀ a t → a.given ≡ true → Accepted t
   outcome-accepted a t H o e =
       accepted_of_built ls t₀ t H (given_of ls t₀.points (length t₀.indices) (length t₀.boxes) (length t₀.links) a e o.due).usable (o.built e)

@@ -8,9 +8,9 @@ use lib.Dec.{T}
 use lib.ListN.{length}
 use lib.Ieee.{Float}
 use Rattle.tree.specs.Accepted.{Tree}
-use Rattle.build.specs.declared.Building.TheVariants.{Nodes, Refused}
+use Rattle.refusal.specs.Numbers.{Told, given, refused}
 use Rattle.build.specs.Built.{Built}
-use Rattle.build.specs.Outcome.{Told, told, Given, Due, odd, many, not_finite, few_indices, few_nodes, allowed, Outcome}
+use Rattle.build.specs.Outcome.{Given, Due, odd, many, not_finite, few_indices, few_nodes, allowed, Outcome}
 
 pub true_false : true ≡ false → ⊥
 true_false e = subst T e tt
@@ -19,7 +19,7 @@ pub false_true : false ≡ true → ⊥
 false_true e = true_false (sym e)
 
 module _ (ls : ℕ) (points : List Float) (i b k : ℕ) where
-  pub given_of : (a : Told) → a.built ≡ true → Due ls points i b k a → Given ls points i b k
+  pub given_of : (a : Told) → a.given ≡ true → Due ls points i b k a → Given ls points i b k
   given_of a e (odd h) = absurd (false_true e)
   given_of a e (many h l) = absurd (false_true e)
   given_of a e (not_finite h l g f) = absurd (false_true e)
@@ -28,10 +28,10 @@ module _ (ls : ℕ) (points : List Float) (i b k : ℕ) where
   given_of a e (allowed g) = g
 
 module _ (ls : ℕ) (t₀ : Tree) where
-  pub outcome-refused : (n d : ℕ) → Due ls t₀.points (length t₀.indices) (length t₀.boxes) (length t₀.links) (told (Refused n d))
-      → Outcome ls t₀ (told (Refused n d)) t₀
+  pub outcome-refused : (n d : ℕ) → Due ls t₀.points (length t₀.indices) (length t₀.boxes) (length t₀.links) (refused n d)
+      → Outcome ls t₀ (refused n d) t₀
   outcome-refused n d D = record { due = D; built = λ e. absurd (false_true e); kept = λ e. refl }
 
-  pub outcome-made : (m : ℕ) (t : Tree) → Due ls t₀.points (length t₀.indices) (length t₀.boxes) (length t₀.links) (told (Nodes m))
-      → Built ls t₀ t → Outcome ls t₀ (told (Nodes m)) t
+  pub outcome-made : (m : ℕ) (t : Tree) → Due ls t₀.points (length t₀.indices) (length t₀.boxes) (length t₀.links) (given m)
+      → Built ls t₀ t → Outcome ls t₀ (given m) t
   outcome-made m t D B = record { due = D; built = λ e. B; kept = λ e. absurd (true_false e) }

@@ -1,16 +1,14 @@
 -- What is asked of a part holds of its halves and of its rearrangements; where no entry stands twice, no higher is lower.
 -- Assumes nothing.
 -- ---- the parts of a part
-use mathlib.Core.Path.{◌≡◌, sym, ap, subst}
+use mathlib.Core.Path.{◌≡◌, ap}
 use mathlib.Core.Logic.{⊎_elim}
-use mathlib.Core.Bool.{Bool, true, false, cond}
 use mathlib.Core.List.{List, ◌++◌}
 use Prim.Native.Nat.{ℕ, ◌<◌}
 use native.Mathlib.Nat.{eq-or-lt_of_le}
 use native.Mathlib.Omega.{arith}
 use lib.ListN.{length, take, length-take, length-drop, drop}
-use lib.Dec.{lit<}
-use lib.Ieee.{Float, binary64, le, sub}
+use lib.Ieee.{Float}
 use Rattle.tree.specs.Accepted.{times}
 use Rattle.tree.specs.Points.{size}
 use Rattle.select.proofs.Parting.{in_take, in_drop}
@@ -18,12 +16,11 @@ use Rattle.tree.proofs.Entries.{times_append, times-parts, from}
 use Rattle.select.specs.Order.{rank, Fit}
 use Rattle.tree.specs.Entries.{Same}
 use Rattle.select.specs.Parts.{Under}
-use Rattle.build.specs.Built.{axis_of, Lower}
-use Rattle.build.specs.Steps.{own_of, Ready}
-use Rattle.distance.specs.declared.Bounds.{Bounds}
+use Rattle.build.specs.Built.{Lower}
+use Rattle.build.specs.Steps.{Ready}
 
-pub ready-fit : (points : List Float) (axis : ℕ) (part : List ℕ) → Ready points part → axis < 2 → Fit points axis part
-ready-fit points axis part r h = record { all_finite = r.all_finite; axes = h; within = r.within }
+pub ready-fit : (points : List Float) (part : List ℕ) → Ready points part → Fit points part
+ready-fit points part r = record { all_finite = r.all_finite; within = r.within }
 
 pub ready-same : (points : List Float) (xs ys : List ℕ) → Same xs ys → length xs ≡ length ys → Ready points ys → Ready points xs
 ready-same points xs ys p e r = record { all_finite = r.all_finite; limit = r.limit; within = λ v h. r.within v (from p v h); once = λ v. omega (arith, p.as_often v, r.once v); some = omega (arith, r.some) }
@@ -48,10 +45,3 @@ strict points axis l r R u v w h k = ⊎_elim (λ (e : rank points axis v ≡ ra
     clash e =
         let q : v ≡ w = omega (arith, a, b, R.limit) in
         omega (arith, times_append v l r, R.once v, h, k, ap (λ (z : ℕ). times z r) q)
-
-pub axis_two : (b : Bounds) (axis : ℕ) → axis ≡ axis_of (own_of b) → axis < 2
-axis_two b axis e = subst (λ (n : ℕ). n < 2) (sym e) (go (le (sub binary64 b.max_y b.min_y) (sub binary64 b.max_x b.min_x)))
-  where
-    go : (t : Bool) → cond t 0 1 < 2
-    go true = lit< tt
-    go false = lit< tt

@@ -93,7 +93,7 @@ module _ (points : List Float) (axis : ℕ) (xs : List ℕ) (lo hi : Float) (t :
 plain_more : (points : List Float) (axis : ℕ) (part : List ℕ) (lo hi lo' hi' : Float) (k : ℕ) → Ready points part → axis < 2 → Plain points axis (take k part) lo hi → k < length part
     → lo' ≡ smaller lo (coord points axis (get_or part k 0)) → hi' ≡ larger hi (coord points axis (get_or part k 0)) → Plain points axis (take (k + 1) part) lo' hi'
 plain_more points axis part lo hi lo' hi' k R a t h e f =
-    let X = known-number points axis (get_or part k 0) (record { all_finite = R.all_finite; axes = a; inside = ready_index points part R k h }) in
+    let X = known-number points axis (get_or part k 0) a (record { all_finite = R.all_finite; inside = ready_index points part R k h }) in
     rw (add-one, take-suc part k 0 h, e, f) (plain_snoc points axis (take k part) lo hi t (get_or part k 0) X)
 
 -- ---- the loop over a part
@@ -113,7 +113,7 @@ module _ (points : List Float) (part : List ℕ) (R : Ready points part) where
   }
     where
       number : (axis : ℕ) → axis < 2 → Number (coord points axis (get_or part 0 0))
-      number axis a = known-number points axis (get_or part 0 0) (record { all_finite = R.all_finite; axes = a; inside = ready_index points part R 0 R.some })
+      number axis a = known-number points axis (get_or part 0 0) a (record { all_finite = R.all_finite; inside = ready_index points part R 0 R.some })
 
   module _ (k : ℕ) (x0 x1 y0 y1 : Float) (S : Looked points part k x0 x1 y0 y1) where
     pub looked_more : (x0' x1' y0' y1' : Float) → k < length part

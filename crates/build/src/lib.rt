@@ -1,40 +1,39 @@
-// The build of a ball tree over points, in slices that the caller lends: n indices, and N(n) nodes of six floats (centre
-// x, centre y, min x, max x, min y, max y) and four numbers (start, end, left, right). Points are x and y in turn.
-//
-//     let answer = BallTreeBuilder::with_leaf_size(16).build(points, indices, boxes, links);
-//
-// One tree for one map, whatever the order of its points: only the order of the indices inside a leaf and the centres are
-// left free. Time grows as n log n on every input; nothing is used beyond the slices and the stack of 20 calls. 1,048,576
-// uniform points take 150 ms; sorted, reversed, equal, organ pipe, few values, and an order played against `select`
-// itself took from half of that to four tenths more (measured with the older kit).
-// Where a row of the refusals applies, the answer says which, and no slice is touched.
+//! The build of a ball tree over points, in slices that the caller lends: n indices, and N(n) nodes of six floats (centre
+//! x, centre y, min x, max x, min y, max y) and four numbers (start, end, left, right). Points are x and y in turn.
+//!
+//!     let nodes = BallTreeBuilder::with_leaf_size(16).build(points, indices, boxes, links)?;
+//!
+//! One tree for one map, whatever the order of its points: only the order of the indices inside a leaf and the centres are
+//! left free. Time grows as n log n on every input; nothing is used beyond the slices and the stack of 20 calls. 1,048,576
+//! uniform points take 150 ms; sorted, reversed, equal, organ pipe, few values, and an order played against `select`
+//! itself took from half of that to four tenths more (measured with the older kit).
+//! Where a row of the refusals applies, the answer says which, and no slice is touched.
 #![tactic(auto)]
 
-ghost use Rattle.std.specs.Prelude.{◌≡◌, ◌⊎◌, ◌∷◌, ◌++◌, ◌/◌, ◌^◌, ◌<◌, ◌≤◌, length, drop};
+ghost use Rattle.std.specs.Prelude.{◌≡◌, ◌∷◌, ◌++◌, ◌/◌, ◌^◌, ◌<◌, ◌≤◌, min, length, drop};
 ghost use Rattle.distance.specs.Distance.{larger};
+ghost use Rattle.refusal.specs.Numbers.{told};
 ghost use Rattle.tree.specs.Accepted.{tree};
+ghost use Rattle.select.specs.Order.{offset};
 ghost use Rattle.build.specs.Built.{Box, axis_of, Each, Built, needed};
-ghost use Rattle.build.specs.Outcome.{told, Given, Due, Outcome};
+ghost use Rattle.build.specs.Outcome.{Given, Due, Outcome};
 ghost use Rattle.build.specs.Steps.{Number, smaller, PlainBox, Settled, own_of, Ready, Room, Raised};
 
 use distance::Bounds;
-
-// What a build comes to: a tree of so many nodes, or a refusal's number and detail.
-#[derive(Clone, Copy)]
-pub enum Building {
-    Nodes(u32),
-    Refused(u32, u32),
-}
+use refusal::Refusal;
+use select::Axis;
 
 // ---- the box of a part
 
 // The lesser and the greater of two by the order of numbers alone: each one instruction, without a jump.
+#[tactic(auto, unfolding(crate::specs::Steps::smaller))]
 fn smaller(a: f64, b: f64) -> f64
     ensures { result ≡ smaller a b }
 {
     if b < a { b } else { a }
 }
 
+#[tactic(auto, unfolding(distance::specs::Distance::larger))]
 fn larger(a: f64, b: f64) -> f64
     ensures { result ≡ larger a b }
 {
@@ -42,9 +41,10 @@ fn larger(a: f64, b: f64) -> f64
 }
 
 // The box of a part by the order of numbers, in which the two zeros are level, and the mean of its points.
+#[tactic(auto, using(crate::proofs::Boxes::ready_index, crate::proofs::Boxes::ready_rest))]
 fn plain_box(points: &[f64], part: &[u32]) -> Bounds
     requires ready { Ready points.now part.now }
-    requires part_len_bound { length part.now < 2 ^ 32 }
+    requires few { length part.now < 2 ^ 32 }
     ensures { PlainBox points.now part.now result }
 {
     let f = 2 * (part[0] as usize);
@@ -56,18 +56,16 @@ fn plain_box(points: &[f64], part: &[u32]) -> Bounds
     let mut x1 = fx;
     let mut y0 = fy;
     let mut y1 = fy;
-    let mut k = 1;
-    while k < part.len() {
-        let i = 2 * (part[k] as usize);
+    for &entry in &part[1..] {
+        let i = 2 * (entry as usize);
         let x = points[i];
         let y = points[i + 1];
-        sx = sx + x;
-        sy = sy + y;
+        sx += x;
+        sy += y;
         x0 = smaller(x0, x);
         x1 = larger(x1, x);
         y0 = smaller(y0, y);
         y1 = larger(y1, y);
-        k += 1;
     }
     let n = (part.len() as u32) as f64;
     Bounds {
@@ -87,21 +85,20 @@ const MINUS_ZERO: u64 = 0x8000_0000_0000_0000;
 
 // An end of the box by totalOrder, from the end by the order of numbers: where that is the zero `had`, and a coordinate of
 // the part is the other zero, `sought`, it is the other one.
-fn zero_end(points: &[f64], part: &[u32], axis: usize, end: f64, had: u64, sought: u64) -> f64
+#[tactic(auto, using(crate::proofs::Boxes::ready_index))]
+fn zero_end(points: &[f64], part: &[u32], axis: Axis, end: f64, had: u64, sought: u64) -> f64
     requires ready { Ready points.now part.now }
-    requires axis_bound { (axis < 2) × Number end }
-    ensures { Settled points.now axis part.now end had sought result }
+    requires number { Number end }
+    ensures { Settled points.now (offset axis) part.now end had sought result }
 {
-    if f64::to_bits(end) != had {
+    if end.to_bits() != had {
         return end;
     }
-    let mut k = 0;
-    while k < part.len() {
-        let x = points[2 * (part[k] as usize) + axis];
-        if f64::to_bits(x) == sought {
+    for &entry in part {
+        let x = points[2 * (entry as usize) + axis.offset()];
+        if x.to_bits() == sought {
             return x;
         }
-        k += 1;
     }
     end
 }
@@ -110,32 +107,31 @@ fn zero_end(points: &[f64], part: &[u32], axis: usize, end: f64, had: u64, sough
 // from totalOrder in the two zeros alone.
 fn box_of(points: &[f64], part: &[u32]) -> Bounds
     requires ready { Ready points.now part.now }
-    requires part_len_bound { length part.now < 2 ^ 32 }
+    requires few { length part.now < 2 ^ 32 }
     ensures { Box points.now part.now (own_of result) }
 {
     let b = plain_box(points, part);
-    let min_x = zero_end(points, part, 0, b.min_x, PLUS_ZERO, MINUS_ZERO);
-    let max_x = zero_end(points, part, 0, b.max_x, MINUS_ZERO, PLUS_ZERO);
-    let min_y = zero_end(points, part, 1, b.min_y, PLUS_ZERO, MINUS_ZERO);
-    let max_y = zero_end(points, part, 1, b.max_y, MINUS_ZERO, PLUS_ZERO);
+    let min_x = zero_end(points, part, Axis::X, b.min_x, PLUS_ZERO, MINUS_ZERO);
+    let max_x = zero_end(points, part, Axis::X, b.max_x, MINUS_ZERO, PLUS_ZERO);
+    let min_y = zero_end(points, part, Axis::Y, b.min_y, PLUS_ZERO, MINUS_ZERO);
+    let max_y = zero_end(points, part, Axis::Y, b.max_y, MINUS_ZERO, PLUS_ZERO);
     Bounds {
-        cx: b.cx,
-        cy: b.cy,
         min_x,
         max_x,
         min_y,
         max_y,
+        ..b
     }
 }
 
 // X, unless the box is higher than it is wide.
-fn axis_of(b: Bounds) -> usize
-    ensures { result ≡ axis_of (own_of b) }
+fn axis_of(b: Bounds) -> Axis
+    ensures { offset result ≡ axis_of (own_of b) }
 {
     if b.max_x - b.min_x >= b.max_y - b.min_y {
-        0
+        Axis::X
     } else {
-        1
+        Axis::Y
     }
 }
 
@@ -145,22 +141,14 @@ fn put_box(boxes: &mut [f64], b: Bounds)
     requires { 6 ≤ length boxes.old }
     ensures { boxes.new ≡ own_of b ++ drop 6 boxes.old }
 {
-    boxes[0] = b.cx;
-    boxes[1] = b.cy;
-    boxes[2] = b.min_x;
-    boxes[3] = b.max_x;
-    boxes[4] = b.min_y;
-    boxes[5] = b.max_y;
+    boxes[..6].copy_from_slice(&[b.cx, b.cy, b.min_x, b.max_x, b.min_y, b.max_y]);
 }
 
 fn put_link(links: &mut [u32], start: u32, end: u32, left: u32, right: u32)
     requires { 4 ≤ length links.old }
     ensures { links.new ≡ start ∷ end ∷ left ∷ right ∷ drop 4 links.old }
 {
-    links[0] = start;
-    links[1] = end;
-    links[2] = left;
-    links[3] = right;
+    links[..4].copy_from_slice(&[start, end, left, right]);
 }
 
 // ---- the recursion
@@ -227,10 +215,8 @@ fn number(part: &mut [u32])
     requires { length part.old < 2 ^ 32 }
     ensures { Each (length part.old) part.new }
 {
-    let mut i = 0;
-    while i < part.len() {
-        part[i] = i as u32;
-        i += 1;
+    for (i, entry) in part.iter_mut().enumerate() {
+        *entry = i as u32;
     }
 }
 
@@ -243,7 +229,8 @@ fn build_whole(
     leaf_size: u32,
 ) -> usize
     requires { Given leaf_size points.now (length indices.old) (length boxes.old) (length links.old) }
-    ensures { (result ≡ needed leaf_size points.now) × Built leaf_size (tree points.now indices.old boxes.old links.old) (tree points.now indices.new boxes.new links.new) }
+    ensures nodes { result ≡ needed leaf_size points.now }
+    ensures built { Built leaf_size (tree points.now indices.old boxes.old links.old) (tree points.now indices.new boxes.new links.new) }
 {
     let n = points.len() / 2;
     if n == 0 {
@@ -254,53 +241,23 @@ fn build_whole(
     build_recursive(points, &mut indices[..n], boxes, links, 0, 0, leaf)
 }
 
-// ---- what is refused
-
 // How many whole nodes both slices of these lengths hold.
 fn whole_nodes(boxes: usize, links: usize) -> usize
-    ensures { (result ≤ boxes / 6) × ((result ≤ links / 4) × ((result ≡ boxes / 6) ⊎ (result ≡ links / 4))) }
+    ensures { result ≡ min (boxes / 6) (links / 4) }
 {
-    if boxes / 6 < links / 4 {
-        boxes / 6
-    } else {
-        links / 4
-    }
-}
-
-// The first row of the refusals that applies over slices of these lengths, or how many nodes there will be.
-fn judge(points: &[f64], indices: usize, boxes: usize, links: usize, leaf_size: u32) -> Building
-    ensures { Due leaf_size points.now indices boxes links (told result) }
-{
-    if points.len() % 2 == 1 {
-        return Building::Refused(1, 0);
-    }
-    let n = points.len() / 2;
-    if n > 1_048_576 {
-        return Building::Refused(2, 0);
-    }
-    let bad = tree::first_bad(points);
-    if bad < n {
-        return Building::Refused(3, bad as u32);
-    }
-    if indices < n {
-        return Building::Refused(6, n as u32);
-    }
-    let need = tree::count_nodes(tree::leaf_of(leaf_size), n);
-    if whole_nodes(boxes, links) < need {
-        return Building::Refused(7, need as u32);
-    }
-    Building::Nodes(need as u32)
+    (boxes / 6).min(links / 4)
 }
 
 // ---- the builder
 
-#[derive(Clone, Copy)]
+/// Builds trees with leaves of a size.
+#[derive(Clone, Copy, Debug, PartialEq, Eq)]
 pub struct BallTreeBuilder {
     leaf_size: u32,
 }
 
 impl BallTreeBuilder {
-    // 16, as in the original: fewer make a deeper tree, more make a leaf's scan longer; both cost a query time.
+    /// As in the original: fewer make a deeper tree, more make a leaf's scan longer; both cost a query time.
     pub const DEFAULT_LEAF_SIZE: u32 = 16;
 
     pub fn new() -> Self
@@ -311,14 +268,14 @@ impl BallTreeBuilder {
         }
     }
 
-    // At most so many points in a leaf; 0 counts as 1.
+    /// At most so many points in a leaf; 0 counts as 1.
     pub fn with_leaf_size(n: u32) -> Self
         ensures { result.leaf_size ≡ n }
     {
         Self { leaf_size: n }
     }
 
-    // The same builder with another leaf size.
+    /// The same builder with another leaf size.
     pub fn leaf_size(mut self, n: u32) -> Self
         ensures { result.leaf_size ≡ n }
     {
@@ -326,38 +283,41 @@ impl BallTreeBuilder {
         self
     }
 
-    // What `build` would answer over slices of these lengths. Nothing is written.
-    pub fn plan(self, points: &[f64], indices: usize, boxes: usize, links: usize) -> Building
+    /// What `build` would answer over slices of these lengths: how many nodes, or the first refusal that applies. Nothing is
+    /// written.
+    pub fn plan(
+        self,
+        points: &[f64],
+        indices: usize,
+        boxes: usize,
+        links: usize,
+    ) -> Result<u32, Refusal>
         ensures { Due self.leaf_size points.now indices boxes links (told result) }
     {
-        judge(points, indices, boxes, links, self.leaf_size)
+        tree::check_points(points)?;
+        let n = points.len() / 2;
+        if indices < n {
+            return Err(Refusal::IndicesTooShort(n as u32));
+        }
+        let need = tree::count_nodes(tree::leaf_of(self.leaf_size), n);
+        if whole_nodes(boxes, links) < need {
+            return Err(Refusal::NodesTooShort(need as u32));
+        }
+        Ok(need as u32)
     }
 
-    // The tree over the points, into the three slices; or a refusal, and they are as they were.
+    /// The tree over the points, into the three slices: how many nodes it has. On a refusal they are as they were.
     pub fn build(
         self,
         points: &[f64],
         indices: &mut [u32],
         boxes: &mut [f64],
         links: &mut [u32],
-    ) -> Building
+    ) -> Result<u32, Refusal>
         ensures { Outcome self.leaf_size (tree points.now indices.old boxes.old links.old) (told result) (tree points.now indices.new boxes.new links.new) }
     {
-        let answer = judge(
-            points,
-            indices.len(),
-            boxes.len(),
-            links.len(),
-            self.leaf_size,
-        );
-        match answer {
-            Building::Refused(number, detail) => {
-                return Building::Refused(number, detail);
-            }
-            Building::Nodes(made) => {
-                build_whole(points, indices, boxes, links, self.leaf_size);
-                return Building::Nodes(made);
-            }
-        }
+        let nodes = self.plan(points, indices.len(), boxes.len(), links.len())?;
+        build_whole(points, indices, boxes, links, self.leaf_size);
+        Ok(nodes)
     }
 }

@@ -12,7 +12,7 @@ use Rattle.select.proofs.Parting.{same_front, mid-all, put_back}
 use Rattle.tree.proofs.Entries.{same_trans}
 use Rattle.select.specs.Order.{rank}
 use Rattle.select.specs.Parts.{Split}
-use Rattle.build.proofs.Parts.{ready-fit, ready-same, ready-take, ready-drop, axis_two}
+use Rattle.build.proofs.Parts.{ready-fit, ready-same, ready-take, ready-drop}
 use Rattle.build.proofs.Step.{leaf-done, branch-done, room-own, Big, big, room-left, room-right, mid-length, put-length, raised_left, raised_right}
 use Rattle.build.specs.Steps.{own_of, Ready}
 use Rattle.build.proofs.+build_recursive.Goals as goal
@@ -101,8 +101,7 @@ returns-then-count-leaf t c =
 
 pub halve-requires : goal.halve-requires
 halve-requires t c =
-    let o = c.box_of-b in
-    ready-fit c.args.points.now c.axis_of-axis.result c.args.part.now c.requires.ready (axis_two o.result c.axis_of-axis.result c.axis_of-axis.ensures)
+    ready-fit c.args.points.now c.args.part.now c.requires.ready
 
 pub slice_bounds-build_recursive-end-2 : goal.slice_bounds-build_recursive-end-2
 slice_bounds-build_recursive-end-2 t c =

@@ -31,7 +31,7 @@ front c = take_at (c.number.new.part) (drop (length c.args.points.now / 2) (c.ar
 pub returns-then-n-eq0 : goal.returns-then-n-eq0
 returns-then-n-eq0 c =
     let a = c.args in
-    (sym (ap (nodes (leaf_of a.leaf_size)) c.if-n-eq0.true ∙ nodes-none (leaf_of a.leaf_size)), whole-none a.leaf_size (tree a.points.now a.indices.now a.boxes.now a.links.now) c.if-n-eq0.true)
+    (record { nodes = sym (ap (nodes (leaf_of a.leaf_size)) c.if-n-eq0.true ∙ nodes-none (leaf_of a.leaf_size)); built = whole-none a.leaf_size (tree a.points.now a.indices.now a.boxes.now a.links.now) c.if-n-eq0.true })
 
 pub slice_bounds-number-end-2 : goal.slice_bounds-number-end-2
 slice_bounds-number-end-2 c = sym (length-take-le (length c.args.points.now / 2) c.args.indices.now c.requires.room)
@@ -56,8 +56,8 @@ returns c =
     let n = length c.args.points.now / 2 in
     let G : Raised c.args.points.now (leaf_of c.args.leaf_size) 0 0 (c.number.new.part) c.args.boxes.now c.args.links.now g.new.part g.new.boxes g.new.links g.result =
     subst (λ (l : ℕ). Raised c.args.points.now l 0 0 (c.number.new.part) c.args.boxes.now c.args.links.now g.new.part g.new.boxes g.new.links g.result) c.leaf_of-leaf.ensures
-    (subst (λ (z : List ℕ). Raised c.args.points.now c.leaf_of-leaf.result 0 0 z c.args.boxes.now c.args.links.now g.new.part g.new.boxes g.new.links g.result) (front (goal.at.returns c).After-slice_known-4-1) g.ensures) in (
-      G.number ∙ ap (nodes (leaf_of c.args.leaf_size)) (sized (goal.at.returns c).After-slice_known-4-1),
-      rw (drop_at (c.number.new.part) (drop n (c.args.indices.now)) n (sized (goal.at.returns c).After-slice_known-4-1))
-          (whole-done c.args.points.now c.args.leaf_size (c.args.indices.now) (c.number.new.part) g.new.part c.args.links.now g.new.links c.args.boxes.now g.new.boxes g.result (numbered (goal.at.returns c).After-slice_known-4-1) (sized (goal.at.returns c).After-slice_known-4-1) (g.auto.part ∙ ap length (front (goal.at.returns c).After-slice_known-4-1) ∙ sized (goal.at.returns c).After-slice_known-4-1) G),
-    )
+    (subst (λ (z : List ℕ). Raised c.args.points.now c.leaf_of-leaf.result 0 0 z c.args.boxes.now c.args.links.now g.new.part g.new.boxes g.new.links g.result) (front (goal.at.returns c).After-slice_known-4-1) g.ensures) in (record {
+      nodes = G.number ∙ ap (nodes (leaf_of c.args.leaf_size)) (sized (goal.at.returns c).After-slice_known-4-1);
+      built = rw (drop_at (c.number.new.part) (drop n (c.args.indices.now)) n (sized (goal.at.returns c).After-slice_known-4-1))
+          (whole-done c.args.points.now c.args.leaf_size (c.args.indices.now) (c.number.new.part) g.new.part c.args.links.now g.new.links c.args.boxes.now g.new.boxes g.result (numbered (goal.at.returns c).After-slice_known-4-1) (sized (goal.at.returns c).After-slice_known-4-1) (g.auto.part ∙ ap length (front (goal.at.returns c).After-slice_known-4-1) ∙ sized (goal.at.returns c).After-slice_known-4-1) G);
+    })
