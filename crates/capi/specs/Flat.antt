@@ -17,7 +17,7 @@
 --                            radius, indices alone
 --   Labels epsilon m s₀ number detail s
 --                            the labelling: all its slices before and after
-use Rattle.std.specs.Prelude.{◌≡◌, cond, List, [], ◌∷◌, ℕ, min, eqb, length, Float}
+use Rattle.std.specs.Prelude.{◌≡◌, cond, List, [], ◌∷◌, ℕ, min, eqb, length, Float, Result}
 use Rattle.std.specs.Float.{binary64}
 use Rattle.std.specs.Float.Ieee.{of_bits}
 use Rattle.distance.specs.declared.Coord.{Coord}
@@ -26,7 +26,8 @@ use Rattle.accept.specs.Answer as check
 use Rattle.build.specs.Outcome as build
 use Rattle.dbscan.specs.Outcome as label
 use Rattle.nearest.specs.Nearest as near
-use Rattle.search.specs.declared.Found.{Found}
+use Rattle.refusal.specs.declared.Refusal.{Refusal}
+use Rattle.refusal.specs.Numbers as code
 use Rattle.search.specs.Refusal.{told}
 use Rattle.search.specs.Answer.{Answers}
 use Rattle.k_nearest.specs.Query.{answer}
@@ -56,9 +57,9 @@ Nears t q index₀ distance₀ number count index distance =
 
 abbrev pub Builds : ℕ → Tree → ℕ → ℕ → Tree → Type 0
 Builds leaf_size t₀ number detail t =
-    Flat (λ a. build.Outcome leaf_size t₀ (build.told a) t) (λ a. (build.told a).number) (λ a. (build.told a).detail) number detail
+    Flat (λ a. build.Outcome leaf_size t₀ (code.told a) t) (λ a. (code.told a).number) (λ a. (code.told a).detail) number detail
 
-abbrev pub Fills : (Found → Type 0) → ℕ → ℕ → Type 0
+abbrev pub Fills : (Result ℕ Refusal → Type 0) → ℕ → ℕ → Type 0
 Fills P number count = Flat P (λ a. (told a).number) (λ a. (told a).detail) number count
 
 abbrev pub KNears : Tree → Coord → ℕ → List ℕ → List Float → ℕ → ℕ → List ℕ → List Float → Type 0
@@ -75,4 +76,4 @@ WithinIndices t q radius indices₀ number count indices =
 
 abbrev pub Labels : Float → ℕ → label.Slices → ℕ → ℕ → label.Slices → Type 0
 Labels epsilon m s₀ number detail s =
-    Flat (λ a. label.Outcome epsilon m s₀ (label.told a) s) (λ a. (label.told a).number) (λ a. (label.told a).detail) number detail
+    Flat (λ a. label.Outcome epsilon m s₀ (code.done a) s) (λ a. (code.done a).number) (λ a. (code.done a).detail) number detail

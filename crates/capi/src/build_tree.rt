@@ -2,7 +2,8 @@
 ghost use Rattle.tree.specs.Accepted.{tree};
 ghost use Rattle.capi.specs.Flat.{Builds};
 
-use build::{BallTreeBuilder, Building};
+use crate::found;
+use build::BallTreeBuilder;
 
 #[unsafe(no_mangle)]
 pub extern "C" fn yt_build(
@@ -16,15 +17,6 @@ pub extern "C" fn yt_build(
     ensures { Builds leaf_size (tree points.now indices.old boxes.old links.old) result detail.new (tree points.now indices.new boxes.new links.new) }
 {
     let builder = BallTreeBuilder::with_leaf_size(leaf_size);
-    let answer = builder.build(points, indices, boxes, links);
-    match answer {
-        Building::Nodes(_made) => {
-            *detail = 0;
-            return 0;
-        }
-        Building::Refused(number, what) => {
-            *detail = what;
-            return number;
-        }
-    }
+    let built = builder.build(points, indices, boxes, links);
+    found::flatten(built.map(|_| 0), detail)
 }

@@ -2,7 +2,8 @@
 ghost use Rattle.tree.specs.Accepted.{tree};
 ghost use Rattle.capi.specs.Flat.{Checks};
 
-use accept::Checked;
+use crate::found;
+use tree::Tree;
 
 #[unsafe(no_mangle)]
 pub extern "C" fn yt_check(
@@ -14,15 +15,6 @@ pub extern "C" fn yt_check(
 ) -> u32
     ensures { Checks (tree points.now indices.now boxes.now links.now) result detail.new }
 {
-    let answer = accept::check_tree(points, indices, boxes, links);
-    match answer {
-        Checked::Accepted => {
-            *detail = 0;
-            return 0;
-        }
-        Checked::Refused(number, what) => {
-            *detail = what;
-            return number;
-        }
-    }
+    let checked = accept::check_tree(&Tree::new(points, indices, boxes, links));
+    found::flatten(checked.map(|()| 0), detail)
 }

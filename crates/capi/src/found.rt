@@ -1,20 +1,21 @@
-// What a query that fills slices answers, as C has it: the number is returned, the count or the detail stands in a cell.
+// An answer as C has it: the number is returned, 0 or a refusal's; the count or the detail stands in a cell.
 ghost use Rattle.std.specs.Prelude.{◌≡◌};
 ghost use Rattle.search.specs.Refusal.{told};
 
-use search::Found;
+use refusal::Refusal;
 
-pub fn flatten(found: Found, count: &mut u32) -> u32
-    ensures { (result ≡ (told found).number) × (count.new ≡ (told found).detail) }
+pub fn flatten(answer: Result<u32, Refusal>, count: &mut u32) -> u32
+    ensures number { result ≡ (told answer).number }
+    ensures count { count.new ≡ (told answer).detail }
 {
-    match found {
-        Found::Hits(hits) => {
-            *count = hits;
-            return 0;
+    match answer {
+        Ok(found) => {
+            *count = found;
+            0
         }
-        Found::Refused(number, detail) => {
-            *count = detail;
-            return number;
+        Err(refusal) => {
+            *count = refusal.detail();
+            refusal.number()
         }
     }
 }

@@ -1,9 +1,11 @@
 // The k nearest points to a place, by distance and then by index.
 ghost use Rattle.tree.specs.Accepted.{tree};
-ghost use Rattle.k_nearest.specs.Query.{place};
+ghost use Rattle.search.specs.Order.{at};
 ghost use Rattle.capi.specs.Flat.{KNears};
 
 use crate::found;
+use distance::Coord;
+use tree::Tree;
 
 #[unsafe(no_mangle)]
 pub extern "C" fn yt_k_nearest(
@@ -18,18 +20,10 @@ pub extern "C" fn yt_k_nearest(
     out_distances: &mut [f64],
     count: &mut u32,
 ) -> u32
-    ensures { KNears (tree points.now indices.now boxes.now links.now) (place x y) k out_indices.old out_distances.old result count.new out_indices.new out_distances.new }
+    ensures { KNears (tree points.now indices.now boxes.now links.now) (at x y) k out_indices.old out_distances.old result count.new out_indices.new out_distances.new }
 {
-    let answer = k_nearest::nearest_neighbours(
-        points,
-        indices,
-        boxes,
-        links,
-        x,
-        y,
-        k,
-        out_indices,
-        out_distances,
-    );
-    found::flatten(answer, count)
+    let tree = Tree::new(points, indices, boxes, links);
+    let place = Coord { x, y };
+    let hits = k_nearest::nearest_neighbours(&tree, place, k, out_indices, out_distances);
+    found::flatten(hits, count)
 }

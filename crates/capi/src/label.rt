@@ -3,7 +3,7 @@ ghost use Rattle.tree.specs.Accepted.{tree};
 ghost use Rattle.dbscan.specs.Outcome.{slices};
 ghost use Rattle.capi.specs.Flat.{Labels};
 
-use dbscan::Labelling;
+use crate::found;
 
 #[unsafe(no_mangle)]
 pub extern "C" fn yt_label(
@@ -19,7 +19,7 @@ pub extern "C" fn yt_label(
 ) -> u32
     ensures { Labels epsilon min_samples (slices (tree points.now indices.old boxes.old links.old) labels.old work.old) result detail.new (slices (tree points.now indices.new boxes.new links.new) labels.new work.new) }
 {
-    let answer = dbscan::dbscan(
+    let labelled = dbscan::dbscan(
         points,
         epsilon,
         min_samples,
@@ -29,14 +29,5 @@ pub extern "C" fn yt_label(
         labels,
         work,
     );
-    match answer {
-        Labelling::Labelled => {
-            *detail = 0;
-            return 0;
-        }
-        Labelling::Refused(number, what) => {
-            *detail = what;
-            return number;
-        }
-    }
+    found::flatten(labelled.map(|()| 0), detail)
 }

@@ -1,9 +1,12 @@
 // The nearest point to a place. Index and distance are written on a hit, set to 0 where damage is met, and left otherwise.
 ghost use Rattle.tree.specs.Accepted.{tree};
-ghost use Rattle.nearest.specs.Nearest.{at};
+ghost use Rattle.search.specs.Order.{at};
 ghost use Rattle.capi.specs.Flat.{Nears};
 
+use distance::Coord;
 use nearest::Nearest;
+use refusal::Refusal;
+use tree::Tree;
 
 #[unsafe(no_mangle)]
 pub extern "C" fn yt_nearest(
@@ -19,26 +22,25 @@ pub extern "C" fn yt_nearest(
 ) -> u32
     ensures { Nears (tree points.now indices.now boxes.now links.now) (at x y) index.old distance.old result count.new index.new distance.new }
 {
-    let answer = nearest::nearest_neighbour(points, indices, boxes, links, x, y);
-    match answer {
+    let tree = Tree::new(points, indices, boxes, links);
+    match nearest::nearest_neighbour(&tree, Coord { x, y }) {
         Nearest::Hit(i, d) => {
             *index = i;
             *distance = d;
             *count = 1;
-            return 0;
+            0
         }
         Nearest::Empty => {
             *count = 0;
-            return 0;
+            0
         }
-        Nearest::Refused(number) => {
+        Nearest::Refused(refusal) => {
             *count = 0;
-            if number == 9 {
+            if refusal == Refusal::DamagedTree {
                 *index = 0;
                 *distance = 0.0;
-                return number;
             }
-            return number;
+            refusal.number()
         }
     }
 }

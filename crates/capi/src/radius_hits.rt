@@ -1,9 +1,11 @@
 // Every point within a radius of a place, by rising index, with its distance.
 ghost use Rattle.tree.specs.Accepted.{tree};
-ghost use Rattle.radius.specs.Within.{place};
+ghost use Rattle.search.specs.Order.{at};
 ghost use Rattle.capi.specs.Flat.{Within};
 
 use crate::found;
+use distance::Coord;
+use tree::Tree;
 
 #[unsafe(no_mangle)]
 pub extern "C" fn yt_radius(
@@ -18,18 +20,10 @@ pub extern "C" fn yt_radius(
     out_distances: &mut [f64],
     count: &mut u32,
 ) -> u32
-    ensures { Within (tree points.now indices.now boxes.now links.now) (place x y) radius out_indices.old out_distances.old result count.new out_indices.new out_distances.new }
+    ensures { Within (tree points.now indices.now boxes.now links.now) (at x y) radius out_indices.old out_distances.old result count.new out_indices.new out_distances.new }
 {
-    let answer = radius::within_radius(
-        points,
-        indices,
-        boxes,
-        links,
-        x,
-        y,
-        radius,
-        out_indices,
-        out_distances,
-    );
-    found::flatten(answer, count)
+    let tree = Tree::new(points, indices, boxes, links);
+    let place = Coord { x, y };
+    let hits = radius::within_radius(&tree, place, radius, out_indices, out_distances);
+    found::flatten(hits, count)
 }

@@ -1,9 +1,11 @@
 // The indices alone of every point within a radius of a place, rising.
 ghost use Rattle.tree.specs.Accepted.{tree};
-ghost use Rattle.radius.specs.Within.{place};
+ghost use Rattle.search.specs.Order.{at};
 ghost use Rattle.capi.specs.Flat.{WithinIndices};
 
 use crate::found;
+use distance::Coord;
+use tree::Tree;
 
 #[unsafe(no_mangle)]
 pub extern "C" fn yt_radius_indices(
@@ -17,17 +19,9 @@ pub extern "C" fn yt_radius_indices(
     out_indices: &mut [u32],
     count: &mut u32,
 ) -> u32
-    ensures { WithinIndices (tree points.now indices.now boxes.now links.now) (place x y) radius out_indices.old result count.new out_indices.new }
+    ensures { WithinIndices (tree points.now indices.now boxes.now links.now) (at x y) radius out_indices.old result count.new out_indices.new }
 {
-    let answer = radius::within_radius_indices(
-        points,
-        indices,
-        boxes,
-        links,
-        x,
-        y,
-        radius,
-        out_indices,
-    );
-    found::flatten(answer, count)
+    let tree = Tree::new(points, indices, boxes, links);
+    let hits = radius::within_radius_indices(&tree, Coord { x, y }, radius, out_indices);
+    found::flatten(hits, count)
 }

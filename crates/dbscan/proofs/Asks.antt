@@ -15,9 +15,9 @@ use borrow.Author.Tests.{ne_eqb, le-ltb}
 use Rattle.tree.specs.Points.{limit, x, y}
 use Rattle.tree.specs.Accepted.{Tree, count, Accepted}
 use Rattle.search.specs.Refusal.{refusal}
-use Rattle.search.specs.declared.Found.{Found}
-use Rattle.search.specs.declared.Found.TheVariants.{Hits, Refused}
-use Rattle.radius.specs.Within.{place, Reply, finds, reply, Answered}
+use Rattle.search.specs.Order.{at}
+use Rattle.refusal.specs.declared.Refusal.{Refusal}
+use Rattle.radius.specs.Within.{Reply, finds, reply, Answered}
 use Rattle.radius.proofs.Scan.{picked, radius_is-scan}
 use Rattle.labels.specs.Labels.{near, hits}
 use Rattle.labels.proofs.Neighbours.{hits-length}
@@ -41,7 +41,7 @@ module _ (t : Tree) (epsilon : Float) (i : ℕ) (out₀ : List ℕ) (A : Asked t
   accepted = A.search.accepted
 
   -- a point of an accepted tree may be asked about
-  not_refused : refusal t.points (place (x t.points i) (y t.points i)) ≡ 0
+  not_refused : refusal t.points (at (x t.points i) (y t.points i)) ≡ 0
   not_refused =
       rw (
         ne_eqb (length t.points % 2) 1 (λ e. omega (arith, e, accepted.even)),
@@ -50,13 +50,13 @@ module _ (t : Tree) (epsilon : Float) (i : ℕ) (out₀ : List ℕ) (A : Asked t
         is_true (finite (y t.points i)) (accepted.all_finite (2 * i + 1) (omega (arith, A.point))),
       )
 
-  found : reply t (place (x t.points i) (y t.points i)) epsilon ≡ finds (hits (near t.points epsilon i) (count t))
+  found : reply t (at (x t.points i) (y t.points i)) epsilon ≡ finds (hits (near t.points epsilon i) (count t))
   unfolding near
   found =
-      radius_is-scan t (place (x t.points i) (y t.points i)) epsilon accepted not_refused (is_true (le (of_bits binary64 0) epsilon) A.search.not_negative)
+      radius_is-scan t (at (x t.points i) (y t.points i)) epsilon accepted not_refused (is_true (le (of_bits binary64 0) epsilon) A.search.not_negative)
       ∙ ap finds (picked-hits (near t.points epsilon i) (count t))
 
-  module _ (r : Found) (out : List ℕ) (W : Answered (reply t (place (x t.points i) (y t.points i)) epsilon) (length out₀) out₀ r out) where
+  module _ (r : Result ℕ Refusal) (out : List ℕ) (W : Answered (reply t (at (x t.points i) (y t.points i)) epsilon) (length out₀) out₀ r out) where
     abbrev l : List ℕ
     l = hits (near t.points epsilon i) (count t)
 
@@ -66,13 +66,13 @@ module _ (t : Tree) (epsilon : Float) (i : ℕ) (out₀ : List ℕ) (A : Asked t
     fits : ltb (length out₀) (length l) ≡ false
     fits = le-ltb (length out₀) (length l) (omega (arith, A.room, hits-length (near t.points epsilon i) (count t)))
 
-    pub asked-hits : r ≡ Hits (length l)
+    pub asked-hits : r ≡ Ok (length l)
     asked-hits = W'.hits_if_zero (ap (λ (b : Bool). cond b 8 0) fits)
 
-    pub asked-filled : (n : ℕ) → r ≡ Hits n → Filled (near t.points epsilon) (count t) i n out
+    pub asked-filled : (n : ℕ) → r ≡ Ok n → Filled (near t.points epsilon) (count t) i n out
     asked-filled n e =
         let same : n ≡ length l = cc asked-hits in
         record { count = same; front = ap (λ (k : ℕ). take k out) same ∙ ap (take (length l)) (W'.indices_are ∙ ap (λ (b : Bool). cond b out₀ (l ++ drop (length l) out₀)) fits) ∙ take-append_seam l (drop (length l) out₀) }
 
-    pub asked_never : (number detail : ℕ) → r ≡ Refused number detail → ⊥
-    asked_never number detail e = let z : ◌≡◌ {A = ℕ} 0 1 = cc asked-hits in omega arith
+    pub asked_never : (w : Refusal) → r ≡ Err w → ⊥
+    asked_never w e = let z : ◌≡◌ {A = ℕ} 0 1 = cc asked-hits in omega arith

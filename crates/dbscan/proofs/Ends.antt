@@ -4,6 +4,7 @@ use mathlib.Core.Path.{◌≡◌, refl, sym, ap, ◌∙◌, subst}
 use mathlib.Core.Logic.{◌⊎◌, inl, inr}
 use mathlib.Core.Bool.{Bool, true, false, ◌||◌}
 use mathlib.Core.List.{List, ◌++◌}
+use Rattle.std.proofs.Common.{Result, Ok, Err}
 use Prim.Native.Nat.{ℕ, zero, suc, ◌*◌, ◌/◌, ◌≤◌, ◌<◌}
 use native.Mathlib.Omega.{arith}
 use lib.Dec.{eqb, ltb}
@@ -15,9 +16,9 @@ use Rattle.tree.specs.Accepted.{Tree, count}
 use Rattle.labels.specs.Labels.{noise, near, Labelled}
 use Rattle.labels.proofs.Unique.{labels-none}
 use Rattle.build.proofs.Outcomes.{true_false}
-use Rattle.dbscan.specs.declared.Labelling.{Labelling}
-use Rattle.dbscan.specs.declared.Labelling.TheVariants as answer
-use Rattle.dbscan.specs.Outcome.{Told, labelled, told, Due, Slices, slices, quiet, Answer, Outcome}
+use Rattle.refusal.specs.Numbers.{Told, done}
+use Rattle.refusal.specs.declared.Refusal.{Refusal}
+use Rattle.dbscan.specs.Outcome.{labelled, Due, Slices, slices, quiet, Answer, Outcome}
 use Rattle.dbscan.specs.Growing.{Sizes, Runnable, Ran, Planted}
 use Rattle.dbscan.proofs.Verdicts.{Ready, due-ready}
 
@@ -28,11 +29,6 @@ quiet_cases n m h = go (eqb m 0) refl (ltb n m) refl h
     go true e b f h = inl (eqb-true m 0 e)
     go false e true f h = inr (ltb-true n m f)
     go false e false f h = absurd (true_false (sym h))
-
--- an answer that is not labels is a refusal
-pub not_labelled : (r : Labelling) → (r ≡ answer.Labelled → ⊥) → (number detail : ℕ) × (r ≡ answer.Refused number detail)
-not_labelled answer.Labelled h = absurd (h refl)
-not_labelled (answer.Refused number detail) h = (number, detail, refl)
 
 busy_asked : (n m : ℕ) → quiet n m ≡ false → 1 ≤ m
 busy_asked n zero h = absurd (true_false h)
@@ -48,12 +44,10 @@ module _ (epsilon : Float) (m : ℕ) (t₀ : Tree) (l₀ w₀ : List ℕ) where
   abbrev Dues : Told → Type 0
   Dues a = Due t₀.points epsilon (length t₀.indices) (length t₀.boxes) (length t₀.links) (length l₀) (length w₀) a
 
-  pub ends-refused : (r : Labelling) (number detail : ℕ) → r ≡ answer.Refused number detail → Dues (told r) → Outcome epsilon m s₀ (told r) s₀
-  ends-refused r number detail e d = record { due = d; answers = λ h. absurd (true_false (sym h ∙ ap (λ (z : Labelling). (told z).answered) e)); kept = λ h. refl }
+  pub ends-refused : (w : Refusal) → Dues (done (Err w)) → Outcome epsilon m s₀ (done (Err w)) s₀
+  ends-refused w d = record { due = d; answers = λ h. absurd (true_false (sym h)); kept = λ h. refl }
 
-  module _ (r : Labelling) (e : r ≡ answer.Labelled) (d : Dues (told r)) where
-    due : Dues labelled
-    due = subst Dues (ap told e) d
+  module _ (due : Dues labelled) where
 
     pub ready : Ready t₀.points epsilon (length t₀.indices) (length t₀.boxes) (length t₀.links) (length l₀) (length w₀)
     ready = due-ready t₀.points epsilon (length t₀.indices) (length t₀.boxes) (length t₀.links) (length l₀) (length w₀) due

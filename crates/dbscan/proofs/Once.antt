@@ -20,31 +20,23 @@ use Rattle.build.specs.Agree.{Held, Agree}
 use Rattle.build.proofs.Outcomes.{true_false}
 use Rattle.build.proofs.Once as built
 use Rattle.build.proofs.Unique.{built_agree}
-use Rattle.dbscan.specs.declared.Labelling.{Labelling}
-use Rattle.dbscan.specs.declared.Labelling.TheVariants as answer
-use Rattle.dbscan.specs.Outcome.{Told, labelled, told, leaf_size, verdict, Due, Slices, quiet, Answer, Outcome}
+use Rattle.refusal.specs.Numbers.{Told}
+use Rattle.dbscan.specs.Outcome.{labelled, leaf_size, verdict, Due, Slices, quiet, Answer, Outcome}
 use Rattle.dbscan.proofs.Verdicts.{Ready}
 use Rattle.dbscan.proofs.Ends.{quiet_cases}
-
--- two answers that tell the same are the same
-pub told-one : (r s : Labelling) → told r ≡ told s → r ≡ s
-told-one answer.Labelled answer.Labelled e = refl
-told-one answer.Labelled (answer.Refused n d) e = absurd (true_false (ap (λ (a : Told). a.answered) e))
-told-one (answer.Refused n d) answer.Labelled e = absurd (true_false (sym (ap (λ (a : Told). a.answered) e)))
-told-one (answer.Refused n d) (answer.Refused m c) e = ap (λ (a : Told). answer.Refused a.number a.detail) e
 
 module _ (points : List Float) (epsilon : Float) (i b k labels work : ℕ) where
   pub due-one : {a c : Told} → Due points epsilon i b k labels work a → Due points epsilon i b k labels work c → a ≡ c
   due-one d e =
       d.told_is
-      ∙ ap (λ (p : build.Told). verdict p epsilon (size points) labels work) (built.due-one leaf_size points i b k d.planned e.planned)
+      ∙ ap (λ (p : Told). verdict p epsilon (size points) labels work) (built.due-one leaf_size points i b k d.planned e.planned)
       ∙ sym e.told_is
 
   -- where no row applies, labels are due
   pub due-answer : {a : Told} → Ready points epsilon i b k labels work → Due points epsilon i b k labels work a → a ≡ labelled
   due-answer R d =
       d.told_is
-      ∙ ap (λ (p : build.Told). verdict p epsilon (size points) labels work) (built.due-one leaf_size points i b k d.planned (build.allowed R.given))
+      ∙ ap (λ (p : Told). verdict p epsilon (size points) labels work) (built.due-one leaf_size points i b k d.planned (build.allowed R.given))
       ∙ rw (is_true (le (of_bits binary64 0) epsilon) R.not_negative, le-ltb labels (size points) R.labels_room, le-ltb work (2 * size points) R.work_room)
     where
       is_true : (b : Bool) → T b → b ≡ true
@@ -60,13 +52,13 @@ module _ (epsilon : Float) (m : ℕ) (s₀ : Slices) where
       → (a ≡ labelled) × Answer epsilon m s₀ s
   outcome-answers a s o R =
       let e = due-answer s₀.tree.points epsilon (length s₀.tree.indices) (length s₀.tree.boxes) (length s₀.tree.links) (length s₀.labels) (length s₀.work) R o.due in
-      (e, o.answers (ap (λ (z : Told). z.answered) e))
+      (e, o.answers (ap (λ (z : Told). z.given) e))
 
-  pub outcome-labels : (a : Told) (s : Slices) → Outcome epsilon m s₀ a s → a.answered ≡ true
+  pub outcome-labels : (a : Told) (s : Slices) → Outcome epsilon m s₀ a s → a.given ≡ true
       → (l : List ℕ) → Labelled (near s₀.tree.points epsilon) n m l → take n s.labels ≡ l
   outcome-labels a s o e l h = labels_unique (near s₀.tree.points epsilon) n m (take n s.labels) l (o.answers e).labels_are h
 
-  pub outcome-noise : (a : Told) (s : Slices) → Outcome epsilon m s₀ a s → a.answered ≡ true → quiet n m ≡ true → take n s.labels ≡ replicate n noise
+  pub outcome-noise : (a : Told) (s : Slices) → Outcome epsilon m s₀ a s → a.given ≡ true → quiet n m ≡ true → take n s.labels ≡ replicate n noise
   outcome-noise a s o e q = outcome-labels a s o e (replicate n noise) (labels-none (near s₀.tree.points epsilon) n m (quiet_cases n m q))
 
   -- ---- two outcomes
@@ -99,15 +91,15 @@ module _ (epsilon : Float) (m : ℕ) (s₀ : Slices) where
           record { told_is = t; labels_are = labels; work_is = x.work_is ∙ sym y.work_is; tree_is = inr (built_agree leaf_size s₀.tree s.tree u.tree H x.tree_is y.tree_is) }
 
   pub outcome-one : (a c : Told) (s u : Slices) → Held s₀.tree.points → Outcome epsilon m s₀ a s → Outcome epsilon m s₀ c u → Same a c s u
-  outcome-one a c s u H o p = go a.answered refl
+  outcome-one a c s u H o p = go a.given refl
     where
       t : a ≡ c
       t = due-one s₀.tree.points epsilon (length s₀.tree.indices) (length s₀.tree.boxes) (length s₀.tree.links) (length s₀.labels) (length s₀.work) o.due p.due
 
-      same : (z : Bool) → a.answered ≡ z → c.answered ≡ z
-      same z e = sym (ap (λ (x : Told). x.answered) t) ∙ e
+      same : (z : Bool) → a.given ≡ z → c.given ≡ z
+      same z e = sym (ap (λ (x : Told). x.given) t) ∙ e
 
-      go : (z : Bool) → a.answered ≡ z → Same a c s u
+      go : (z : Bool) → a.given ≡ z → Same a c s u
       go true e = answers_one a c s u H t (o.answers e) (p.answers (same true e))
       go false e =
           let k = o.kept e ∙ sym (p.kept (same false e)) in

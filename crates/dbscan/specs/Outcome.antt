@@ -1,8 +1,5 @@
 -- What `dbscan` answers, by the table of refusals, and what it leaves of every slice.
---   Told               an answer in numbers: whether there are labels, and the number (0: none) and the detail of a refusal
 --   labelled           labels are given
---   refused n d        refused by number n of the table, with detail d
---   told r             what the answer r tells
 --   leaf_size          of the tree that is built
 --   verdict plan ..    what is told where the build would tell plan: its 1, 2 and 3 come first, 5 before its 6 and 7, and
 --                      8 last, for fewer than n labels and then for fewer than 2 n entries of work
@@ -19,43 +16,30 @@
 use Rattle.std.specs.Prelude.{◌≡◌, Bool, true, false, not, ◌&&◌, ◌||◌, cond, List, ◌++◌, ℕ, ◌*◌, eqb, ltb, length, take, drop, replicate, Float}
 use Rattle.std.specs.Float.{binary64}
 use Rattle.std.specs.Float.Ieee.{of_bits, le}
+use Rattle.refusal.specs.Numbers.{Told, given, refused}
 use Rattle.tree.specs.Points.{size}
 use Rattle.tree.specs.Accepted.{Tree, count}
 use Rattle.labels.specs.Labels.{near, Labelled}
 use Rattle.build.specs.Built.{Built}
 use Rattle.build.specs.Outcome as build
-use Rattle.dbscan.specs.declared.Labelling.{Labelling}
-use Rattle.dbscan.specs.declared.Labelling.TheVariants as answer
-
-pub record Told : Type 0 where
-  pub answered : Bool
-  pub number : ℕ
-  pub detail : ℕ
 
 abbrev pub labelled : Told
-labelled = record { answered = true; number = 0; detail = 0 }
-
-abbrev pub refused : ℕ → ℕ → Told
-refused number detail = record { answered = false; number = number; detail = detail }
-
-abbrev pub told : Labelling → Told
-told answer.Labelled = labelled
-told (answer.Refused number detail) = refused number detail
+labelled = given 0
 
 abbrev pub leaf_size : ℕ
 leaf_size = 16
 
 -- a NaN and a number below zero are not at least 0; -0 is
-abbrev pub verdict : build.Told → Float → ℕ → ℕ → ℕ → Told
+abbrev pub verdict : Told → Float → ℕ → ℕ → ℕ → Told
 verdict plan epsilon n labels work =
-    cond (not plan.built && ltb plan.number 5) (refused plan.number plan.detail)
+    cond (not plan.given && ltb plan.number 5) (refused plan.number plan.detail)
     (cond (not (le (of_bits binary64 0) epsilon)) (refused 5 0)
-    (cond (not plan.built) (refused plan.number plan.detail)
+    (cond (not plan.given) (refused plan.number plan.detail)
     (cond (ltb labels n) (refused 8 n)
     (cond (ltb work (2 * n)) (refused 8 (2 * n)) labelled))))
 
 pub record Due (points : List Float) (epsilon : Float) (indices boxes links labels work : ℕ) (a : Told) : Type 0 where
-  pub plan : build.Told
+  pub plan : Told
   pub planned : build.Due leaf_size points indices boxes links plan
   pub told_is : a ≡ verdict plan epsilon (size points) labels work
 
@@ -87,5 +71,5 @@ pub record Answer (epsilon : Float) (m : ℕ) (s₀ s : Slices) : Type 0 where
 pub record Outcome (epsilon : Float) (m : ℕ) (s₀ : Slices) (a : Told) (s : Slices) : Type 0 where
   pub due : Due s₀.tree.points epsilon (length s₀.tree.indices) (length s₀.tree.boxes) (length s₀.tree.links)
       (length s₀.labels) (length s₀.work) a
-  pub answers : a.answered ≡ true → Answer epsilon m s₀ s
-  pub kept : a.answered ≡ false → s ≡ s₀
+  pub answers : a.given ≡ true → Answer epsilon m s₀ s
+  pub kept : a.given ≡ false → s ≡ s₀

@@ -1,6 +1,7 @@
 -- A refusal is known by its number and its detail, and none has the number 0. By cases. Assumes nothing.
-use Rattle.std.proofs.Common.{◌≡◌, ℕ, Bool, cond, eqb, Result, Ok, Err, refl, sym, ap, ◌∙◌, arith}
-use Rattle.refusal.specs.Numbers.{number, detail, told, done}
+use Rattle.std.proofs.Common.{◌≡◌, ℕ, Bool, cond, eqb, Result, Ok, Err, refl, sym, ap, subst, ◌∙◌, arith}
+use lib.Dec.{T}
+use Rattle.refusal.specs.Numbers.{Told, number, detail, told, done}
 use Rattle.refusal.specs.declared.Refusal.{Refusal}
 use Rattle.refusal.specs.declared.Refusal.TheVariants.{OddCoordinates, TooManyPoints, PointNotFinite, PlaceNotFinite, RadiusNotValid, IndicesTooShort, NodesTooShort, NoRoom, DamagedTree, UnknownRecord}
 
@@ -43,3 +44,16 @@ number-nonzero (NodesTooShort n) h = absurd (omega (arith, h))
 number-nonzero (NoRoom n) h = absurd (omega (arith, h))
 number-nonzero DamagedTree h = absurd (omega (arith, h))
 number-nonzero UnknownRecord h = absurd (omega (arith, h))
+
+-- ---- two answers that tell the same are the same
+pub done-one : (r s : Result Unit Refusal) → done r ≡ done s → r ≡ s
+done-one (Ok u) (Ok v) e = refl
+done-one (Ok u) (Err s) e = absurd (subst T (ap (λ (a : Told). a.given) e) tt)
+done-one (Err r) (Ok v) e = absurd (subst T (sym (ap (λ (a : Told). a.given) e)) tt)
+done-one (Err r) (Err s) e = ap (λ (r : Refusal). Err r) (same-refusal r s (ap (λ (a : Told). a.number) e) (ap (λ (a : Told). a.detail) e))
+
+pub told-one : (r s : Result ℕ Refusal) → told r ≡ told s → r ≡ s
+told-one (Ok n) (Ok m) e = ap (λ (a : Told). Ok a.count) e
+told-one (Ok n) (Err s) e = absurd (subst T (ap (λ (a : Told). a.given) e) tt)
+told-one (Err r) (Ok m) e = absurd (subst T (sym (ap (λ (a : Told). a.given) e)) tt)
+told-one (Err r) (Err s) e = ap (λ (r : Refusal). Err r) (same-refusal r s (ap (λ (a : Told). a.number) e) (ap (λ (a : Told). a.detail) e))
