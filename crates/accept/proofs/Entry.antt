@@ -1,8 +1,8 @@
 -- The answer of the check, way by way, in the order of its tests. Assumes nothing.
 use mathlib.Core.Path.{◌≡◌, refl}
-use mathlib.Core.Logic.{◌⊎◌, inl, inr}
-use Prim.Native.Nat.{ℕ, ◌≤◌, ◌<◌}
-use lib.ListN.{length, get_or, take}
+use mathlib.Core.Logic.{◌⊎◌}
+use Prim.Native.Nat.{◌≤◌}
+use lib.ListN.{length, take}
 use Rattle.std.specs.Prelude.{◌↔◌, Result, Ok, Err, IsOk}
 use Rattle.std.proofs.lemmas.List.{get_or-take, length-take-le}
 use Rattle.refusal.specs.declared.Refusal.{Refusal}
