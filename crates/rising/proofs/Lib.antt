@@ -1,5 +1,4 @@
 -- Laws of the sort; Sorting has those that its users cite.
-pub mod Shuffling
 pub mod Sinking
 pub mod Parting
 pub mod Sorting

@@ -1,3 +1,1 @@
--- What the contracts of `rising` cite: Sort for its users, Shuffle for its inner functions.
 pub mod Sort
-pub mod Shuffle
