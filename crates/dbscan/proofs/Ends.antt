@@ -48,7 +48,6 @@ module _ (epsilon : Float) (m : ℕ) (t₀ : Tree) (l₀ w₀ : List ℕ) where
   ends-refused w d = record { due = d; answers = λ h. absurd (true_false (sym h)); kept = λ h. refl }
 
   module _ (due : Dues labelled) where
-
     pub ready : Ready t₀.points epsilon (length t₀.indices) (length t₀.boxes) (length t₀.links) (length l₀) (length w₀)
     ready = due-ready t₀.points epsilon (length t₀.indices) (length t₀.boxes) (length t₀.links) (length l₀) (length w₀) due
 

@@ -29,9 +29,10 @@ fn neighbours(tree: &Tree, epsilon: f64, i: usize, out: &mut [u32]) -> usize
     requires { Asked tree.now epsilon i out.old }
     ensures { Filled (near tree.now.points epsilon) (count tree.now) i result out.new }
 {
+    let points = tree.points();
     let place = Coord {
-        x: tree.points()[2 * i],
-        y: tree.points()[2 * i + 1],
+        x: points[2 * i],
+        y: points[2 * i + 1],
     };
     let Ok(count) = radius::within_radius_indices(tree, place, epsilon, out) else {
         return 0;

@@ -37,19 +37,19 @@ pub neighbours-around-requires : goal.neighbours-around-requires
 neighbours-around-requires c =
     record { search = c.requires.search; point = c.requires.point; room = length-take-le _ c.args.work.now (omega (arith, c.requires.between.sizes.work)) }
 
-pub shape_of-work-then-around-m : goal.shape_of-work-then-around-m
-shape_of-work-then-around-m c = (after (goal.at.shape_of-work-then-around-m c).After-neighbours-around).sizes.work ∙ sym c.requires.between.sizes.work
+pub shape_of-work-then-around-density : goal.shape_of-work-then-around-density
+shape_of-work-then-around-density c = (after (goal.at.shape_of-work-then-around-density c).After-neighbours-around).sizes.work ∙ sym c.requires.between.sizes.work
 
-pub returns-then-around-m : goal.returns-then-around-m
-returns-then-around-m c =
-    between-skip (near c.args.tree.now.points c.args.density.epsilon) (size c.args.tree.now.points) c.args.density.min_samples c.requires.between (after (goal.at.returns-then-around-m c).After-neighbours-around).sizes (λ k. omega (arith, k.many, c.if-around-m.true, c.neighbours-around.ensures.count))
+pub returns-then-around-density : goal.returns-then-around-density
+returns-then-around-density c =
+    between-skip (near c.args.tree.now.points c.args.density.epsilon) (size c.args.tree.now.points) c.args.density.min_samples c.requires.between (after (goal.at.returns-then-around-density c).After-neighbours-around).sizes (λ k. omega (arith, k.many, c.if-around-density.true, c.neighbours-around.ensures.count))
 
 pub expand-requires : goal.expand-requires
 expand-requires c =
     record {
       search = c.requires.search;
       between = between-moved (near c.args.tree.now.points c.args.density.epsilon) (size c.args.tree.now.points) c.args.density.min_samples c.requires.between (after (goal.at.expand-requires c).After-neighbours-around).sizes;
-      core = record { inside = c.requires.point; asked = c.requires.asked; many = omega (arith, c.if-around-m.false, c.neighbours-around.ensures.count) };
+      core = record { inside = c.requires.point; asked = c.requires.asked; many = omega (arith, c.if-around-density.false, c.neighbours-around.ensures.count) };
       bare = same (goal.at.expand-requires c).Start ∙ c.if-labels-i.false;
       filled = (after (goal.at.expand-requires c).After-neighbours-around).filled;
     }
