@@ -37,5 +37,5 @@ overflow_add-result c = omega (arith, room (goal.at.overflow_add-result c).Else-
 
 pub returns : goal.returns
 returns c =
-    ap (λ (t : ℕ). held (set c.args.work.now c.args.tail c.args.k) t (set c.args.labels.now c.args.k c.args.c)) (add-one c.args.tail)
+    ap (λ (t : ℕ). held (set c.args.work.now c.args.tail c.args.k) t (set c.args.labels.now c.args.k c.args.cluster.label)) (add-one c.args.tail)
     ∙ claim_queued c.args.k c.args.cluster.seed c.args.cluster.label c.args.tail c.args.work.now c.args.labels.now (same (goal.at.returns c).Start ∙ c.if-labels-k.false) c.if-k-cluster.false

@@ -1,7 +1,7 @@
 -- `dbscan::grow::claim_all` meets its contract. The invariant: what is left to claim from here comes to what was asked, and
 -- there is room for it. Assumes nothing.
 use mathlib.Core.Path.{◌≡◌}
-use Prim.Native.Nat.{◌≤◌, ◌-◌}
+use Prim.Native.Nat.{◌≤◌}
 use lib.ListN.{length, take, drop}
 use Rattle.dbscan.specs.Growing.{held, claim_all, Roomy}
 use Rattle.dbscan.proofs.grow.claim_all.Given as goal

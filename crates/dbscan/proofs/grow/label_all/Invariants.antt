@@ -1,5 +1,4 @@
 -- `dbscan::grow::label_all` meets its contract. The invariant: the cores below i have labels, and nothing waits. Assumes nothing.
-use Prim.Native.Nat.{◌≤◌, ◌-◌}
 use Rattle.tree.specs.Points.{size}
 use Rattle.labels.specs.Labels.{near}
 use Rattle.dbscan.specs.Growing.{Between}
