@@ -69,10 +69,10 @@ module _ (p : List Float) (n : ℕ) (x y : Float) {indices : List ℕ} {boxes : 
   keep-not_finite h e i = kept-not (so_far p n) x y (PointNotFinite i) (numbered 3 (simp (lt-leb 1024 n h, e)))
 
   module _ (h : n < 1024) (e : (finite x && finite y) ≡ true) where
-    now : List Float
+    abbrev pub now : List Float
     now = set (set p (2 * n) x) (2 * n + 1) y
 
-    stored : now ≡ sets p (2 * n) (x ∷ y ∷ [])
+    stored : set (set p (2 * n) x) (2 * n + 1) y ≡ sets p (2 * n) (x ∷ y ∷ [])
     stored = simp unary_clauses
 
     more : so_far now (n + 1) ≡ so_far p n ++ (x ∷ y ∷ [])

@@ -59,10 +59,10 @@ pub record Replies (what : Record) (p : List Float) (out : List ℕ) (at : ℕ) 
   pub short : length text ≤ longest
   pub put : Put out at text out' wrote
 
-pub record Stepped (what : Record) (p : List Float) (out : List ℕ) (at : ℕ) (p' : List Float) (out' : List ℕ) (wrote : ℕ) (going : Bool) : Type 0 where
+pub record Stepped (what : Record) (p : List Float) (out : List ℕ) (at : ℕ) (p' : List Float) (out' : List ℕ) (wrote : ℕ) (on : Bool) : Type 0 where
   pub replies : Replies what p out at out' wrote
   pub points : p' ≡ after p what
-  pub going : going ≡ goes what
+  pub going : on ≡ goes what
 
 pub data Takes (room : ℕ) (s : List ℕ) (from : ℕ) (p : List Float) : List ℕ → ℕ → List Float → Bool → Type 0 where
   none : Takes room s from p [] from p true

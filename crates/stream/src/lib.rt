@@ -13,7 +13,7 @@ ghost use Rattle.tree.specs.Accepted.{tree, count, Accepted};
 ghost use Rattle.search.specs.Answer.{Answers};
 ghost use Rattle.records.specs.declared.Record.TheVariants.{Nearest as AskNearest, Label as AskLabel};
 ghost use Rattle.text.specs.Line.{Put};
-ghost use Rattle.stream.specs.Prints.{error, limit_points};
+ghost use Rattle.stream.specs.Prints.{error, limit_points, Floats};
 ghost use Rattle.stream.specs.Feeding.{Kept, Replies, Stepped, FedBy, longest};
 ghost use Rattle.stream.specs.Printing.{PrintedBy, Roomy};
 ghost use Rattle.stream.specs.Asked.{Raising, Asking, Plain, Writes, found_text, Query, asked, letter_of, listed};
@@ -175,12 +175,12 @@ impl<'a> Map<'a> {
     }
 
     // Takes one record and writes its lines; whether the stream goes on.
-    fn take(&mut self, record: Record, lines: &mut Writer) -> bool
+    fn take(&mut self, what: Record, lines: &mut Writer) -> bool
         requires room { lines.old.at + longest ≤ length lines.old.out.now }
         ensures same_reference { lines.new.out.ghost_name ≡ lines.old.out.ghost_name }
-        ensures stepped { Stepped record self.old.points lines.old.out.now lines.old.at self.new.points lines.new.out.now lines.new.at result }
+        ensures stepped { Stepped what self.old.points lines.old.out.now lines.old.at self.new.points lines.new.out.now lines.new.at result }
     {
-        match record {
+        match what {
             Record::Point(x, y) => {
                 if let Err(refusal) = self.keep(Coord { x, y }) {
                     put_error(refusal, lines);
@@ -194,7 +194,7 @@ impl<'a> Map<'a> {
             _ => {
                 self.raise();
                 let tree = self.tree();
-                reply(record, &tree, lines);
+                reply(what, &tree, lines);
                 true
             }
         }
@@ -254,7 +254,8 @@ impl Wanted {
         requires stands { Accepted tree.now }
         requires near_room { count tree.now ≤ length near.old }
         requires far_room { count tree.now ≤ length far.old }
-        ensures { Answers (listed self tree.now.points place) near.old far.old result near.new far.new }
+        ensures answers { Answers (listed self tree.now.points place) near.old far.old result near.new far.new }
+        ensures floats { Floats far.new }
     {
         match self {
             Wanted::Nearest(k) => k_nearest::nearest_neighbours(tree, place, k, near, far),
@@ -356,14 +357,14 @@ pub fn feed(input: &[u8], from: usize, map: &mut Map, out: &mut [u8]) -> Fed
     let mut lines = Writer::new(out, 0);
     let mut used = from;
     while lines.out.len() - lines.at >= LONGEST {
-        let Read::Whole(record, next) = records::read_at(input, used) else {
+        let Read::Whole(what, next) = records::read_at(input, used) else {
             return Fed {
                 used,
                 wrote: lines.at,
                 stop: Stop::Hungry,
             };
         };
-        let goes_on = map.take(record, &mut lines);
+        let goes_on = map.take(what, &mut lines);
         used = next;
         if !goes_on {
             return Fed {
