@@ -214,7 +214,7 @@ pub fn within_radius_capped(
 ) -> Result<u32, Refusal>
     ensures { InRoom tree.now.points place (reply tree.now place radius) (min cap (min (length out_indices.old) (length out_distances.old))) out_indices.old out_distances.old result out_indices.new out_distances.new }
 {
-    let room = cap.min(out_indices.len().min(out_distances.len()));
+    let room = cap.min(out_indices.len()).min(out_distances.len());
     let answer = within_radius_indices(tree, place, radius, &mut out_indices[..room]);
     match answer {
         Ok(n) => {

@@ -13,7 +13,7 @@ use Rattle.radius.proofs.within_radius_capped.Goals.{After-within_radius_indices
 
 -- the room is the shortest of the three
 room : (c : After-within_radius_indices-answer) → c.min-room.result ≡ min c.args.cap (min (length c.args.out_indices.now) (length c.args.out_distances.now))
-room c = c.min-room.ensures ∙ ap (min c.args.cap) c.min.ensures
+room c = omega (arith, c.min-room.ensures, c.min.ensures)
 
 inside : (c : After-within_radius_indices-answer) → c.min-room.result ≤ length c.args.out_indices.now
 inside c = omega (arith, room c)
