@@ -55,16 +55,16 @@ module _ (bytes u : List ℕ) (from : ℕ) (p : List Float) {room : ℕ} where
       fills-on k refl v (end (omega (arith, b)) (ap goes_on r ∙ g) (s.last what (next - at) v r g w))
 
 -- ---- what is left where no whole record is
-wants-cut : (b d : Bool) (r : Record) (k : ℕ) → b ≡ true → Wants (cond b (cond d (Whole r k) Cut) End) → d ≡ false
+pub wants-cut : (b d : Bool) (r : Record) (k : ℕ) → b ≡ true → Wants (cond b (cond d (Whole r k) Cut) End) → d ≡ false
 wants-cut true true r k e w = absurd w
 wants-cut true false r k e w = refl
 wants-cut false d r k e w = absurd (subst T (sym e) tt)
 
 module _ (bytes : List ℕ) (at : ℕ) where
-  over-at : length bytes ≤ at → read_at (drop at bytes) 0 ≡ End
+  pub over-at : length bytes ≤ at → read_at (drop at bytes) 0 ≡ End
   over-at h = let n : length (drop at bytes) ≤ 0 = omega (arith, length-drop at bytes) in simp (le-ltb 0 (length (drop at bytes)) n)
 
-  cut_at : at < length bytes → Wants (read_at bytes at) → read_at (drop at bytes) 0 ≡ Cut
+  pub cut_at : at < length bytes → Wants (read_at bytes at) → read_at (drop at bytes) 0 ≡ Cut
   cut_at h w =
       let kind : get_or (drop at bytes) 0 0 ≡ get_or bytes at 0 = get_or-drop at bytes 0 0 ∙ ap (λ (k : ℕ). get_or bytes k 0) (omega arith) in
       let n : length (drop at bytes) ≡ length bytes - at = length-drop at bytes in
