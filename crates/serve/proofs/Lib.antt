@@ -1,2 +1,4 @@
 -- Laws that the proofs cite.
-pub mod Sliding
+pub mod Waiting
+pub mod Fed
+pub mod Serving

@@ -1,192 +1,147 @@
-// The loop of the program: records from a reader, lines to a writer. What is said of bytes is said of
-// `stream::feed`; here they are only moved, in large buffers. A record that is cut where a read ended waits at the front for the next one.
-// An error comes only where the reader or the writer gave it, and ends the run.
+//! The station's loop: records from any reader, in whatever pieces they come, and their lines to any writer, in fixed
+//! buffers. Bytes that are no whole record yet wait at the front of the input for the next read.
 #![tactic(auto)]
 
-ghost use Rattle.std.specs.Prelude.{◌≡◌, false, ◌-◌, ◌≤◌, length, ℕ, Bool, IfOk, OnErr};
-ghost use Rattle.stream.specs.Feeding.{Ready};
-ghost use Rattle.serve.specs.Good.{Good, Slid};
+ghost use Rattle.std.specs.Prelude.{◌≡◌, ◌<◌, ◌≤◌, ℕ, [], List, eqb, length, drop, IfOk, OnOk, IfSome};
+ghost use Rattle.std.specs.Io.KnownBytes.{Appends};
+ghost use Rattle.stream.specs.Stream.{Output};
+ghost use Rattle.serve.specs.Serving.{Came, Turned, Ends};
 
 use std::io;
-use std::io::{Read, Write};
-use stream::Stop;
+use std::io::{ErrorKind, Read, Write};
+use std::marker::Model;
+use stream::{Map, Stop};
 
-// The bytes `used..have` of the input are still to be taken; the rest as `stream::feed` has it.
-#[derive(Clone, Copy)]
-struct State {
-    have: usize,
+// How many bytes are read and written at a time.
+const BUFFER: usize = 65536;
+
+// The bytes `used..have` of a buffer: they came, and are still to be taken.
+#[derive(Debug, Drop)]
+struct Input<'a> {
+    bytes: &'a mut [u8],
     used: usize,
-    count: usize,
-    fresh: bool,
-    going: bool,
-}
-
-// Moves the bytes from..to to the start.
-fn slide(buf: &mut [u8], from: usize, to: usize)
-    requires { (from ≤ to) × (to ≤ length buf.old) }
-    ensures { Slid buf.old from to buf.new }
-{
-    let n = to - from;
-    let mut i = 0;
-    while i < n {
-        buf[i] = buf[from + i];
-        i += 1;
-    }
-}
-
-// One read into the input from `rest` on. Answers how many bytes came; 0 where the input ends.
-fn refill<R: Read>(input: &mut [u8], rest: usize, reader: &mut R) -> io::Result<usize>
-    requires { rest ≤ length input.old }
-    ensures came { IfOk result (λ got. got ≤ length input.old - rest) }
-    ensures len { length input.new ≡ length input.old }
-{
-    reader.read(&mut input[rest..])
-}
-
-// What is left of the input goes to the front, and one read comes after it. At the end of all input a record that is left
-// is cut: the stream ends by 10.
-fn read_on<R: Read, W: Write>(
-    input: &mut [u8],
     have: usize,
-    used: usize,
-    count: usize,
-    fresh: bool,
-    reader: &mut R,
-    writer: &mut W,
-) -> io::Result<State>
-    requires { (used ≤ have) × (have ≤ length input.old) }
-    ensures on { IfOk result (λ s. Good (length input.old) s × (s.count ≡ count) × (s.fresh ≡ fresh)) }
-    ensures len { length input.new ≡ length input.old }
-{
-    slide(input, used, have);
-    let rest = have - used;
-    let got = refill(input, rest, reader)?;
-    if got == 0 {
-        if rest > 0 {
-            writer.write_all(b"E 10\n")?;
-        }
-        return Ok(State {
-            have: rest,
+}
+
+impl<'a> Model for Input<'a> {
+    ghost use Rattle.std.specs.Prelude.{ℕ, List, length};
+    ghost use Rattle.serve.specs.Waiting.{held, Good};
+
+    ghost Value = { List ℕ };
+
+    ghost view = { λ i. held i.used i.have i.bytes.now };
+
+    ghost invariant = { λ i. Good (length i.bytes.now) i.used i.have };
+}
+
+impl<'a> Input<'a> {
+    fn new(bytes: &'a mut [u8]) -> Self
+        requires room { 32 ≤ length bytes.old }
+        ensures none { result ≡ [] }
+    {
+        Input {
+            bytes,
             used: 0,
-            count,
-            fresh,
-            going: false,
-        });
+            have: 0,
+        }
     }
-    Ok(State {
-        have: rest + got,
-        used: 0,
-        count,
-        fresh,
-        going: true,
-    })
+
+    fn rest(&self) -> &[u8]
+        ensures { result.now ≡ self.now }
+    {
+        &self.bytes[self.used..self.have]
+    }
+
+    fn is_empty(&self) -> bool
+        ensures { result ≡ eqb (length self.now) 0 }
+    {
+        self.used == self.have
+    }
+
+    // So many bytes are taken.
+    fn advance(&mut self, count: usize)
+        requires { count ≤ length self.old }
+        ensures { self.new ≡ drop count self.old }
+    {
+        self.used += count;
+    }
+
+    // What is left goes to the front, and one read comes after it. Answers how many bytes came: none where the reader ends.
+    fn refill<R: Read>(&mut self, reader: &mut R) -> io::Result<usize>
+        requires room { length self.old < 32 }
+        ensures came { IfOk result (Came (R.remaining reader.old) (R.remaining reader.new) self.old self.new) }
+    {
+        let (used, have) = (self.used, self.have);
+        self.bytes.copy_within(used..have, 0);
+        let rest = have - used;
+        self.used = 0;
+        self.have = rest;
+        let got = reader.read(&mut self.bytes[rest..])?;
+        self.have = rest + got;
+        Ok(got)
+    }
 }
 
-// Takes what is whole in the input, writes the lines, and reads on. After an error the points are those taken so far.
+// Takes what is whole in the input, writes its lines, and reads on where it wants more; whether the stream goes on. At the
+// end of all input a record that is left is cut: the stream ends by 10.
 fn turn<R: Read, W: Write>(
-    input: &mut [u8],
-    points: &mut [f64],
-    indices: &mut [u32],
-    boxes: &mut [f64],
-    links: &mut [u32],
+    input: &mut Input,
+    map: &mut Map,
     out: &mut [u8],
-    s: State,
     reader: &mut R,
     writer: &mut W,
-) -> io::Result<State>
-    requires { Good (length input.old) s × Ready points.old s.count indices.old boxes.old links.old s.fresh }
-    ensures on { IfOk result (λ r. Good (length input.old) r × Ready points.new r.count indices.new boxes.new links.new r.fresh) }
-    ensures err { OnErr result ((count : ℕ) × (fresh : Bool) × Ready points.new count indices.new boxes.new links.new fresh) }
-    ensures len { length input.new ≡ length input.old }
+) -> io::Result<bool>
+    ensures turned { IfOk result (Turned (R.remaining reader.old) (R.remaining reader.new) (W.contents writer.old) (W.contents writer.new) map.old.points input.old map.new.points input.new) }
 {
-    let have = s.have;
-    let f = stream::feed(
-        &input[..have],
-        s.used,
-        points,
-        s.count,
-        indices,
-        boxes,
-        links,
-        s.fresh,
-        out,
-    );
-    let wrote = f.wrote;
-    let used = f.used;
-    let count = f.count;
-    let fresh = f.fresh;
-    writer.write_all(&out[..wrote])?;
-    match f.stop {
-        Stop::Hungry => return read_on(input, have, used, count, fresh, reader, writer),
-        Stop::Full => {
-            return Ok(State {
-                have,
-                used,
-                count,
-                fresh,
-                going: true,
-            });
+    let fed = stream::feed(input.rest(), 0, map, out);
+    writer.write_all(&out[..fed.wrote])?;
+    input.advance(fed.used);
+    match fed.stop {
+        Stop::Full => Ok(true),
+        Stop::Done => Ok(false),
+        Stop::Hungry => {
+            if input.refill(reader)? > 0 {
+                return Ok(true);
+            }
+            if !input.is_empty() {
+                writer.write_all(b"E 10\n")?;
+            }
+            Ok(false)
         }
-        Stop::Done => {}
     }
-    Ok(State {
-        have,
-        used,
-        count,
-        fresh,
-        going: false,
-    })
 }
 
-// Nothing says that the input ends, so the turns are counted down from a number that no run uses up. After an error the
-// points are those taken so far.
+// Nothing says that a reader ends, so the turns are counted, up to a number that no run uses up.
 fn drive<R: Read, W: Write>(
-    input: &mut [u8],
-    points: &mut [f64],
-    indices: &mut [u32],
-    boxes: &mut [f64],
-    links: &mut [u32],
+    input: &mut Input,
+    map: &mut Map,
     out: &mut [u8],
     reader: &mut R,
     writer: &mut W,
 ) -> io::Result<()>
-    requires { Ready points.old 0 indices.old boxes.old links.old false }
-    ensures err { OnErr result ((count : ℕ) × (fresh : Bool) × Ready points.new count indices.new boxes.new links.new fresh) }
+    ensures { OnOk result (Ends (R.remaining reader.old) (W.contents writer.old) (W.contents writer.new) map.old.points input.old) }
 {
-    let mut s = State {
-        have: 0,
-        used: 0,
-        count: 0,
-        fresh: false,
-        going: true,
-    };
-    let mut turns = u64::MAX;
-    while turns > 0 {
-        s = turn(input, points, indices, boxes, links, out, s, reader, writer)?;
-        if !s.going {
+    for _ in 0..u64::MAX {
+        if !turn(input, map, out, reader, writer)? {
             return Ok(());
         }
-        turns -= 1;
     }
-    Ok(())
+    Err(io::Error::from(ErrorKind::Other))
 }
 
-// Serves the reader until it ends or the stream does.
-pub fn run<R: Read, W: Write>(reader: &mut R, writer: &mut W) -> io::Result<()> {
-    let mut input = [0u8; 65536];
-    let mut points = [0.0f64; 2048];
-    let mut indices = [0u32; 1024];
-    let mut boxes = [0.0f64; 12288];
-    let mut links = [0u32; 8192];
-    let mut out = [0u8; 65536];
-    drive(
-        &mut input,
-        &mut points,
-        &mut indices,
-        &mut boxes,
-        &mut links,
-        &mut out,
-        reader,
-        writer,
-    )
+/// Serves the reader until it ends or the stream does. What is appended to the writer is what all that the reader had
+/// prints, in whatever pieces it comes, and nothing else. An error is the reader's or the writer's, and ends the run; or
+/// 2^64 - 1 pieces have come.
+pub fn run<R: Read, W: Write>(reader: &mut R, writer: &mut W) -> io::Result<()>
+    ensures printed { OnOk result (IfSome (R.remaining reader.old) (λ bytes. (text : List ℕ) × Output [] bytes text × Appends (W.contents writer.old) (W.contents writer.new) text)) }
+{
+    let mut points = [0.0f64; stream::COORDINATES];
+    let mut indices = [0u32; stream::MAX_POINTS];
+    let mut boxes = [0.0f64; stream::BOXES];
+    let mut links = [0u32; stream::LINKS];
+    let mut bytes = [0u8; BUFFER];
+    let mut out = [0u8; BUFFER];
+    let mut map = Map::new(&mut points, &mut indices, &mut boxes, &mut links);
+    let mut input = Input::new(&mut bytes);
+    drive(&mut input, &mut map, &mut out, reader, writer)
 }

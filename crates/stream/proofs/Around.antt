@@ -18,8 +18,9 @@ use Rattle.search.specs.Answer.{Answer, refused, hits, gives_hits, Answers}
 use Rattle.search.specs.Walk.{outcome, walk_all}
 use Rattle.search.specs.Result.{Roots, squares_of, indices_of}
 use Rattle.search.specs.declared.Best.{Best}
-use Rattle.search.specs.declared.Found.{Found}
-use Rattle.search.specs.declared.Found.TheVariants.{Hits, Refused}
+use Rattle.std.proofs.Common.{Result, Ok, Err}
+use Rattle.refusal.specs.declared.Refusal.{Refusal}
+use Rattle.refusal.proofs.Same.{number-nonzero}
 use Rattle.tree.proofs.Each.{Each}
 use Rattle.labels.specs.Labels.{hits as passing}
 use Rattle.radius.specs.Within as w
@@ -65,9 +66,13 @@ not_refused points q radius e = go (eqb (refusal points q) 0) refl (le (of_bits 
     go true f false g h = absurd (omega arith)
     go false f b g h = absurd (eqb-false (refusal points q) 0 f h)
 
-no-hits : (r : Found) → ((told r).number ≡ 0 → ⊥) → gives_hits r ≡ false
-no-hits (Hits m) h = absurd (h refl)
-no-hits (Refused k d) h = refl
+told-ok : (r : Result ℕ Refusal) (m : ℕ) → told r ≡ record { number = 0; detail = m } → r ≡ Ok m
+told-ok (Ok n) m e = ap (λ (a : Told). Ok a.detail) e
+told-ok (Err r) m e = absurd (number-nonzero r (ap (λ (a : Told). a.number) e))
+
+no-hits : (r : Result ℕ Refusal) → ((told r).number ≡ 0 → ⊥) → gives_hits r ≡ false
+no-hits (Ok m) h = absurd (h refl)
+no-hits (Err r) h = refl
 
 module _ (t : Tree) (q : Coord) (radius : Float) (A : Accepted t) where
   abbrev k : ℕ
@@ -87,13 +92,13 @@ module _ (t : Tree) (q : Coord) (radius : Float) (A : Accepted t) where
   reply-finds : k ≡ 0 → reply t q radius ≡ finds (picked hit (count t))
   reply-finds e = let f = not_refused t.points q radius e in radius_is-scan t q radius A f.0 f.1
 
-  module _ {is₀ is : List ℕ} {ds₀ ds : List Float} (r : Found) (room : count t ≤ min (length is₀) (length ds₀)) where
+  module _ {is₀ is : List ℕ} {ds₀ ds : List Float} (r : Result ℕ Refusal) (room : count t ≤ min (length is₀) (length ds₀)) where
     finds-answers : WithDistances t.points q (finds (picked hit (count t))) is₀ ds₀ r is ds → Answers (hits found) is₀ ds₀ r is ds
     finds-answers W =
         let n = length (picked hit (count t)) in
         let few : length (picked hit (count t)) ≤ min (length is₀) (length ds₀) = omega (arith, length-picked hit (count t), room) in
         let no : ltb (min (length is₀) (length ds₀)) (length (picked hit (count t))) ≡ false = le-ltb (min (length is₀) (length ds₀)) (length (picked hit (count t))) few in
-        let e : r ≡ Hits (length (picked hit (count t))) = W.answered.hits_if_zero (simp no) in
+        let e : r ≡ Ok (length (picked hit (count t))) = told-ok r (length (picked hit (count t))) (W.answered.told_is ∙ simp no) in
         let m : length found ≡ length (picked hit (count t)) = length-map (picked hit (count t)) (point t.points q) in
         let D : RootsInFront (squares t.points q (picked hit (count t))) ds₀ ds = rw no at W.distances_are in
         let s : length (squares t.points q (picked hit (count t))) ≡ length found = length-map (picked hit (count t)) (λ (i : ℕ). (point t.points q i).d2) ∙ sym m in

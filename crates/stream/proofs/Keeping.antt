@@ -8,37 +8,27 @@ use native.Mathlib.Numerals.{unary_clauses}
 use native.Mathlib.Omega.{arith}
 use lib.ListN.{length, set, take, drop, length-append}
 use lib.Seq.{sets, sets-eq, length-sets, take_at, length-take-le}
-use lib.Dec.{T, leb, eqb}
+use lib.Dec.{T, eqb}
 use lib.Ieee.{Float}
 use lib.Ieee.Scale.{finite}
-use borrow.Author.Tests.{le-leb, lt-leb, leb-false, eq-eqb, ne_eqb}
+use Rattle.std.proofs.Common.{Ok, Err}
+use borrow.Author.Tests.{le-leb, lt-leb, eq-eqb, ne_eqb}
+use Rattle.refusal.specs.Numbers.{number}
+use Rattle.refusal.specs.declared.Refusal.{Refusal}
+use Rattle.refusal.specs.declared.Refusal.TheVariants.{TooManyPoints, PointNotFinite}
+use Rattle.refusal.proofs.Same.{number-nonzero}
 use Rattle.records.specs.declared.Record.TheVariants.{Point}
 use Rattle.tree.specs.Points.{size, AllFinite}
 use Rattle.text.specs.Line.{Put}
 use Rattle.text.proofs.Laws.{short-count}
-use Rattle.stream.specs.Prints.{error, keep_number, Prints}
-use Rattle.stream.specs.Stream.{after}
+use Rattle.stream.specs.Prints.{error, keep_number}
 use Rattle.stream.specs.Feeding.{so_far, Kept, Ready, Stepped}
-
--- ---- the code's ways
-module _ (p : List Float) (n : ℕ) (x y : Float) where
-  pub keep-full : 1024 ≤ n → Kept p n x y p 2
-  keep-full h = record { number = simp (le-leb 1024 n h); points = refl }
-
-  pub keep_not_x : n < 1024 → finite x ≡ false → Kept p n x y p 3
-  keep_not_x h e = record { number = simp (lt-leb 1024 n h, e); points = refl }
-
-  pub keep_not_y : n < 1024 → finite x ≡ true → finite y ≡ false → Kept p n x y p 3
-  keep_not_y h d e = record { number = simp (lt-leb 1024 n h, d, e); points = refl }
-
-  pub keep-kept : n < 1024 → finite x ≡ true → finite y ≡ true → Kept p n x y (set (set p (2 * n) x) (2 * n + 1) y) 0
-  keep-kept h d e = record { number = simp (lt-leb 1024 n h, d, e); points = simp unary_clauses }
 
 -- ---- the points so far
 pub size-so_far : (p : List Float) (n : ℕ) → n ≤ 1024 → 2048 ≤ length p → size (so_far p n) ≡ n
 size-so_far p n h k = let e : length (take (2 * n) p) ≡ 2 * n = length-take-le (2 * n) p (omega arith) in omega (arith, e)
 
-pub so_far_more : (p : List Float) (n : ℕ) (x y : Float) → n < 1024 → 2048 ≤ length p → so_far (sets p (2 * n) (x ∷ y ∷ [])) (n + 1) ≡ so_far p n ++ (x ∷ y ∷ [])
+so_far_more : (p : List Float) (n : ℕ) (x y : Float) → n < 1024 → 2048 ≤ length p → so_far (sets p (2 * n) (x ∷ y ∷ [])) (n + 1) ≡ so_far p n ++ (x ∷ y ∷ [])
 so_far_more p n x y h k =
     let e : length (take (2 * n) p ++ (x ∷ y ∷ [])) ≡ 2 * (n + 1) =
     length-append (take (2 * n) p) (x ∷ y ∷ []) ∙ ap (λ (m : ℕ). m + 2) (length-take-le (2 * n) p (omega arith)) ∙ omega arith in
@@ -56,70 +46,79 @@ both true true e = (tt, tt)
 both true false e = absurd (subst T (sym e) tt)
 both false b e = absurd (subst T (sym e) tt)
 
--- ---- a step by a point
-module _ (p : List Float) (n : ℕ) (x y : Float) (indices : List ℕ) (boxes : List Float) (links : List ℕ) (fresh : Bool)
-    (R : Ready p n indices boxes links fresh) (out : List ℕ) (at : ℕ) (p' : List Float) (e : ℕ) (k : Kept p n x y p' e) where
+-- ---- the ways of `keep`
+module _ (q : List Float) (x y : Float) where
+  -- what its number makes of the points
+  moves : (b : Bool) → eqb (keep_number (size q) x y) 0 ≡ b → cond b (q ++ (x ∷ y ∷ [])) q ≡ cond (eqb (keep_number (size q) x y) 0) (q ++ (x ∷ y ∷ [])) q
+  moves b e = ap (λ (c : Bool). cond c (q ++ (x ∷ y ∷ [])) q) (sym e)
+
+  kept-not : (r : Refusal) → number r ≡ keep_number (size q) x y → Kept q x y q (Err r)
+  kept-not r e = record { number = e; points = moves false (ne_eqb (keep_number (size q) x y) 0 (λ z. number-nonzero r (e ∙ z))) }
+
+module _ (p : List Float) (n : ℕ) (x y : Float) {indices : List ℕ} {boxes : List Float} {links : List ℕ} {fresh : Bool} (R : Ready p n indices boxes links fresh) where
   counted : size (so_far p n) ≡ n
   counted = size-so_far p n R.few R.points_room
 
-  same_number : keep_number (size (so_far p n)) x y ≡ e
-  same_number = ap (λ (m : ℕ). keep_number m x y) counted ∙ sym k.number
+  numbered : (k : ℕ) → k ≡ keep_number n x y → k ≡ keep_number (size (so_far p n)) x y
+  numbered k e = e ∙ ap (λ (m : ℕ). keep_number m x y) (sym counted)
 
-  -- where it is 0 there is room, and the point is finite
-  kept-room : e ≡ 0 → (n < 1024) × (finite x && finite y ≡ true)
-  kept-room z = go (leb 1024 n) (finite x && finite y) refl refl (sym k.number ∙ z)
-    where
-      go : (a b : Bool) → leb 1024 n ≡ a → finite x && finite y ≡ b → ◌≡◌ {A = ℕ} (cond a 2 (cond b 0 3)) 0 → (n < 1024) × (finite x && finite y ≡ true)
-      go true b f g h = absurd (omega arith)
-      go false true f g h = (leb-false 1024 n f, g)
-      go false false f g h = absurd (omega arith)
+  pub keep-full : 1024 ≤ n → Kept (so_far p n) x y (so_far p n) (Err TooManyPoints)
+  keep-full h = kept-not (so_far p n) x y TooManyPoints (numbered 2 (simp (le-leb 1024 n h)))
 
-  prints : (t : List ℕ) → t ≡ cond (eqb e 0) [] (error e) → Prints (so_far p n) (Point x y) t
-  prints t h = h ∙ ap (λ (m : ℕ). cond (eqb m 0) [] (error m)) (sym same_number)
+  pub keep-not_finite : n < 1024 → (finite x && finite y) ≡ false → (i : ℕ) → Kept (so_far p n) x y (so_far p n) (Err (PointNotFinite i))
+  keep-not_finite h e i = kept-not (so_far p n) x y (PointNotFinite i) (numbered 3 (simp (lt-leb 1024 n h, e)))
 
-  moved : after (so_far p n) (Point x y) ≡ cond (eqb e 0) (so_far p n ++ (x ∷ y ∷ [])) (so_far p n)
-  moved = ap (λ (m : ℕ). cond (eqb m 0) (so_far p n ++ (x ∷ y ∷ [])) (so_far p n)) same_number
+  module _ (h : n < 1024) (e : (finite x && finite y) ≡ true) where
+    abbrev pub now : List Float
+    now = set (set p (2 * n) x) (2 * n + 1) y
 
-  pub point-kept : e ≡ 0 → Stepped (Point x y) p n out at p' indices boxes links out (record { count = n + 1; wrote = at; fresh = false; going = true })
-  point-kept z =
-      let w = kept-room z in
-      let f = both (finite x) (finite y) w.1 in
-      let d : eqb e 0 ≡ true = eq-eqb e 0 z in
-      let i : p' ≡ sets p (2 * n) (x ∷ y ∷ []) = k.points ∙ ap (λ (b : Bool). cond b (sets p (2 * n) (x ∷ y ∷ [])) p) d in
-      let j : so_far p' (n + 1) ≡ so_far p n ++ (x ∷ y ∷ []) = ap (λ (l : List Float). so_far l (n + 1)) i ∙ so_far_more p n x y w.0 R.points_room in
-      record {
-        replies = record {
-          text = [];
-          prints = prints [] (ap (λ (b : Bool). cond b [] (error e)) (sym d));
-          short = omega arith;
-          put = record { bytes = refl; past = omega arith };
-        };
-        points = j ∙ sym (moved ∙ ap (λ (b : Bool). cond b (so_far p n ++ (x ∷ y ∷ [])) (so_far p n)) d);
-        ready = record {
-          few = omega (arith, w.0);
-          points_room = omega (arith, R.points_room, ap length i, length-sets p (2 * n) (x ∷ y ∷ []));
+    stored : set (set p (2 * n) x) (2 * n + 1) y ≡ sets p (2 * n) (x ∷ y ∷ [])
+    stored = simp unary_clauses
+
+    more : so_far now (n + 1) ≡ so_far p n ++ (x ∷ y ∷ [])
+    more = ap (λ (l : List Float). so_far l (n + 1)) stored ∙ so_far_more p n x y h R.points_room
+
+    pub keep-kept : Kept (so_far p n) x y (so_far now (n + 1)) (Ok tt)
+    keep-kept =
+        let z : 0 ≡ keep_number (size (so_far p n)) x y = numbered 0 (simp (lt-leb 1024 n h, e)) in record {
+          number = z;
+          points = more ∙ moves (so_far p n) x y true (eq-eqb (keep_number (size (so_far p n)) x y) 0 (sym z));
+        }
+
+    pub ready-kept : Ready now (n + 1) indices boxes links false
+    ready-kept =
+        let f = both (finite x) (finite y) e in record {
+          few = omega (arith, h);
+          points_room = omega (arith, R.points_room, ap length stored, length-sets p (2 * n) (x ∷ y ∷ []));
           indices_room = R.indices_room;
           boxes_room = R.boxes_room;
           links_room = R.links_room;
-          all_finite = subst AllFinite (sym j) (finite-more (so_far p n) x y R.all_finite f.0 f.1);
+          all_finite = subst AllFinite (sym more) (finite-more (so_far p n) x y R.all_finite f.0 f.1);
           stands = λ g. absurd (subst T (sym g) tt);
-        };
-        going = refl;
-      }
+        }
 
-  pub point-refused : (e ≡ 0 → ⊥) → (out' : List ℕ) (w : ℕ) → Put out at (error e) out' w
-      → Stepped (Point x y) p n out at p' indices boxes links out' (record { count = n; wrote = w; fresh = fresh; going = true })
-  point-refused z out' w q =
-      let d : eqb e 0 ≡ false = ne_eqb e 0 z in
-      let i : p' ≡ p = k.points ∙ ap (λ (b : Bool). cond b (sets p (2 * n) (x ∷ y ∷ [])) p) d in
-      record {
-        replies = record {
-          text = error e;
-          prints = prints (error e) (ap (λ (b : Bool). cond b [] (error e)) (sym d));
-          short = omega (arith, short-count 69 e);
-          put = q;
-        };
-        points = ap (λ (l : List Float). so_far l n) i ∙ sym (moved ∙ ap (λ (b : Bool). cond b (so_far p n ++ (x ∷ y ∷ [])) (so_far p n)) d);
-        ready = subst (λ (l : List Float). Ready l n indices boxes links fresh) (sym i) R;
-        going = refl;
-      }
+-- ---- a step by a point
+module _ (p : List Float) (x y : Float) (p' : List Float) (out : List ℕ) (at : ℕ) where
+  printed : (k : ℕ) → k ≡ keep_number (size p) x y → (b : Bool) → eqb k 0 ≡ b
+      → cond b [] (error k) ≡ cond (eqb (keep_number (size p) x y) 0) [] (error (keep_number (size p) x y))
+  printed k e b f = ap (λ (c : Bool). cond c [] (error k)) (sym f) ∙ ap (λ (m : ℕ). cond (eqb m 0) [] (error m)) e
+
+  pub point-kept : (u : Unit) → Kept p x y p' (Ok u) → Stepped (Point x y) p out at p' out at true
+  point-kept u k = record {
+    replies = record { text = []; prints = printed 0 k.number true refl; short = omega arith; put = record { bytes = refl; past = omega arith } };
+    points = k.points;
+    going = refl;
+  }
+
+  pub point-refused : (r : Refusal) → Kept p x y p' (Err r) → {out' : List ℕ} {w : ℕ} → Put out at (error (number r)) out' w
+      → Stepped (Point x y) p out at p' out' w true
+  point-refused r k q = record {
+    replies = record {
+      text = error (number r);
+      prints = printed (number r) k.number false (ne_eqb (number r) 0 (number-nonzero r));
+      short = omega (arith, short-count 69 (number r));
+      put = q;
+    };
+    points = k.points;
+    going = refl;
+  }

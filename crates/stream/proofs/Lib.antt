@@ -5,6 +5,7 @@ pub mod Nearby
 pub mod Listing
 pub mod Several
 pub mod Around
+pub mod Lists
 pub mod Labelled
 pub mod Steps
 pub mod Started

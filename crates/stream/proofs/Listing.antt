@@ -13,8 +13,9 @@ use Rattle.search.specs.Answer.{Answer, refused, damaged, hits, gives_hits, Answ
 use Rattle.search.specs.Refusal.{Told, told}
 use Rattle.search.specs.Result.{Roots, none, more, Written, indices_of, squares_of}
 use Rattle.search.specs.declared.Best.{Best}
-use Rattle.search.specs.declared.Found.{Found}
-use Rattle.search.specs.declared.Found.TheVariants.{Hits, Refused}
+use Rattle.std.proofs.Common.{Result, Ok, Err}
+use Rattle.refusal.specs.Numbers as code
+use Rattle.refusal.specs.declared.Refusal.{Refusal}
 use Rattle.tree.proofs.Each.{Each}
 use Rattle.search.proofs.Fronts.{roots-length}
 use Rattle.text.specs.Line.{Put, count_line, hit_lines}
@@ -74,28 +75,28 @@ module _ {l : List Best} {is₀ is : List ℕ} {ds₀ ds : List Float} (W : Writ
   }
 
 module _ {is₀ is : List ℕ} {ds₀ ds : List Float} where
-  pub replied : (letter : ℕ) (a : Answer) (r : Found) → Answers a is₀ ds₀ r is ds → Floats ds → Replied letter a (found_text letter r is ds)
-  replied letter (refused number detail) (Hits m) A f = absurd (subst T A.kind tt)
-  replied letter (refused number detail) (Refused k d) A f = ap (λ (z : Told). error z.number) A.tells
-  replied letter damaged (Hits m) A f = absurd (subst T A.kind tt)
-  replied letter damaged (Refused k d) A f = ap (λ (z : Told). error z.number) A.tells
-  replied letter (hits l) (Refused k d) A f = absurd (subst T (sym A.kind) tt)
-  replied letter (hits l) (Hits m) A f =
+  pub replied : (letter : ℕ) (a : Answer) (r : Result ℕ Refusal) → Answers a is₀ ds₀ r is ds → Floats ds → Replied letter a (found_text letter r is ds)
+  replied letter (refused number detail) (Ok m) A f = absurd (subst T A.kind tt)
+  replied letter (refused number detail) (Err r) A f = ap (λ (z : Told). error z.number) A.tells
+  replied letter damaged (Ok m) A f = absurd (subst T A.kind tt)
+  replied letter damaged (Err r) A f = ap (λ (z : Told). error z.number) A.tells
+  replied letter (hits l) (Err r) A f = absurd (subst T (sym A.kind) tt)
+  replied letter (hits l) (Ok m) A f =
       subst (λ (k : ℕ). Listed letter l (count_line letter k ++ hit_lines k is ds)) (sym (ap (λ (z : Told). z.detail) A.tells)) (listed A.leaves letter f)
 
-  pub countable : (a : Answer) (r : Found) → Answers a is₀ ds₀ r is ds → length is ≤ 1024 → ((l : List Best) → a ≡ hits l → Each Unsigned l)
-      → (m : ℕ) → r ≡ Hits m → Countable m is ds
+  pub countable : (a : Answer) (r : Result ℕ Refusal) → Answers a is₀ ds₀ r is ds → length is ≤ 1024 → ((l : List Best) → a ≡ hits l → Each Unsigned l)
+      → (m : ℕ) → r ≡ Ok m → Countable m is ds
   countable (refused number detail) r A h u m e = absurd (subst T (ap gives_hits (sym e) ∙ A.kind) tt)
   countable damaged r A h u m e = absurd (subst T (ap gives_hits (sym e) ∙ A.kind) tt)
-  countable (hits l) r A h u m e = counted A.leaves m (ap (λ (z : Found). (told z).detail) (sym e) ∙ ap (λ (z : Told). z.detail) A.tells) h (u l refl)
+  countable (hits l) r A h u m e = counted A.leaves m (ap (λ (z : Result ℕ Refusal). (told z).detail) (sym e) ∙ ap (λ (z : Told). z.detail) A.tells) h (u l refl)
 
-pub found-short : (letter : ℕ) (r : Found) (is : List ℕ) (ds : List Float) → ((m : ℕ) → r ≡ Hits m → Countable m is ds) → length (found_text letter r is ds) ≤ 32768
-found-short letter (Hits m) is ds h =
+pub found-short : (letter : ℕ) (r : Result ℕ Refusal) (is : List ℕ) (ds : List Float) → ((m : ℕ) → r ≡ Ok m → Countable m is ds) → length (found_text letter r is ds) ≤ 32768
+found-short letter (Ok m) is ds h =
     omega (arith, (h m refl).few, length-append (count_line letter m) (hit_lines m is ds), short-count letter m, short-hits m is ds)
-found-short letter (Refused number detail) is ds h = omega (arith, short-count 69 number)
+found-short letter (Err r) is ds h = omega (arith, short-count 69 (code.number r))
 
 -- ---- for any query that lists hits
-module _ {a : Answer} {is₀ is : List ℕ} {ds₀ ds : List Float} {r : Found} (A : Answers a is₀ ds₀ r is ds) (most : length is ≤ 1024) (u : (l : List Best) → a ≡ hits l → Each Unsigned l) where
+module _ {a : Answer} {is₀ is : List ℕ} {ds₀ ds : List Float} {r : Result ℕ Refusal} (A : Answers a is₀ ds₀ r is ds) (most : length is ≤ 1024) (u : (l : List Best) → a ≡ hits l → Each Unsigned l) where
   pub writes : {out : List ℕ} {at : ℕ} → at + 32768 ≤ length out → Writes out at r is ds
   writes h = record { room = h; counts = countable a r A most u }
 

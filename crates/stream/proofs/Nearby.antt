@@ -14,12 +14,13 @@ use Rattle.distance.specs.declared.Coord.{Coord}
 use Rattle.distance.proofs.Mono.{nonneg, d2-nonneg}
 use Rattle.root.specs.Root.{Root}
 use Rattle.root.proofs.NoNan.{unsigned, root-no-nan}
-use Rattle.tree.specs.Accepted.{Tree, tree, count, Accepted}
+use Rattle.tree.specs.Accepted.{Tree, count, Accepted}
 use Rattle.search.proofs.Unrefused.{refusal-finite}
 use Rattle.search.specs.Walk.{plain}
 use Rattle.search.specs.Order.{point}
 use Rattle.search.specs.Refusal.{refusal}
 use Rattle.search.specs.Result.{Roots, none, more}
+use Rattle.refusal.specs.Numbers.{number}
 use Rattle.nearest.specs.declared.Nearest.{Nearest}
 use Rattle.nearest.specs.declared.Nearest.TheVariants.{Hit, Empty, Refused}
 use Rattle.nearest.specs.Nearest as n
@@ -60,12 +61,12 @@ near-number t q i d A h =
 abbrev pub near_text : Nearest → List ℕ
 near_text (Hit i d) = nearest_line i d
 near_text Empty = none_line
-near_text (Refused number) = error number
+near_text (Refused r) = error (number r)
 
 pub near-short : (r : Nearest) → length (near_text r) ≤ 32768
 near-short (Hit i d) = omega (arith, short-hit i d)
 near-short Empty = omega arith
-near-short (Refused number) = omega (arith, short-count 69 number)
+near-short (Refused r) = omega (arith, short-count 69 (number r))
 
 first : (x y : Float) → Roots (x ∷ []) (y ∷ []) → Root x y
 first x y (more r none) = r
@@ -83,7 +84,5 @@ says-near (n.refused k) (Hit i d) h f = absurd (subst T h.answered_is tt)
 says-near (n.refused k) Empty h f = absurd (subst T h.answered_is tt)
 says-near (n.refused k) (Refused m) h f = ap error h.number_is
 
-pub near-prints : (points : List Float) (indices : List ℕ) (boxes : List Float) (links : List ℕ) (q : Coord) (r : Nearest)
-    → Accepted (tree points indices boxes links) → Answers (tree points indices boxes links) q (told r) → Fits r → Near (near_scan (over points) q) (near_text r)
-near-prints points indices boxes links q r A h f =
-    says-near (near_scan (over points) q) r (answers_as_scan (tree points indices boxes links) q r A h) f
+pub near-prints : (t : Tree) (q : Coord) (r : Nearest) → Accepted t → Answers t q (told r) → Fits r → Near (near_scan (over t.points) q) (near_text r)
+near-prints t q r A h f = says-near (near_scan (over t.points) q) r (answers_as_scan t q r A h) f

@@ -19,11 +19,12 @@ use Rattle.root.proofs.Unique.{root_unique}
 use Rattle.tree.specs.Points.{size}
 use Rattle.tree.specs.Accepted.{Tree}
 use Rattle.search.specs.Answer.{Answer, refused, damaged, hits}
+use Rattle.search.specs.Order.{at}
 use Rattle.search.specs.Result.{indices_of}
 use Rattle.search.specs.declared.Best.{Best}
 use Rattle.search.proofs.Written.{Held, roots_unique}
 use Rattle.nearest.specs.Nearest as n
-use Rattle.nearest.specs.Nearest.{Reply, near_scan, at}
+use Rattle.nearest.specs.Nearest.{Reply, near_scan}
 use Rattle.k_nearest.specs.Query.{scan_answer}
 use Rattle.labels.specs.Labels.{near}
 use Rattle.labels.proofs.Unique.{labels_unique}

@@ -27,7 +27,7 @@ use Rattle.stream.specs.Prints.{error}
 use Rattle.stream.specs.Stream as s
 use Rattle.stream.specs.Stream.{after, Output}
 use Rattle.stream.specs.Feeding as takes
-use Rattle.stream.specs.Feeding.{so_far, longest, Takes, Wants, Waits, Ends, on, FedBy}
+use Rattle.stream.specs.Feeding.{longest, Takes, Wants, Waits, Ends, on, FedBy}
 use Rattle.stream.specs.Printing.{goes_on, Fills, full, end, more, Roomy, Filled}
 use Rattle.stream.proofs.Pieces.{shift, rest}
 
@@ -55,16 +55,16 @@ module _ (bytes u : List ℕ) (from : ℕ) (p : List Float) {room : ℕ} where
       fills-on k refl v (end (omega (arith, b)) (ap goes_on r ∙ g) (s.last what (next - at) v r g w))
 
 -- ---- what is left where no whole record is
-wants-cut : (b d : Bool) (r : Record) (k : ℕ) → b ≡ true → Wants (cond b (cond d (Whole r k) Cut) End) → d ≡ false
+pub wants-cut : (b d : Bool) (r : Record) (k : ℕ) → b ≡ true → Wants (cond b (cond d (Whole r k) Cut) End) → d ≡ false
 wants-cut true true r k e w = absurd w
 wants-cut true false r k e w = refl
 wants-cut false d r k e w = absurd (subst T (sym e) tt)
 
 module _ (bytes : List ℕ) (at : ℕ) where
-  over-at : length bytes ≤ at → read_at (drop at bytes) 0 ≡ End
+  pub over-at : length bytes ≤ at → read_at (drop at bytes) 0 ≡ End
   over-at h = let n : length (drop at bytes) ≤ 0 = omega (arith, length-drop at bytes) in simp (le-ltb 0 (length (drop at bytes)) n)
 
-  cut_at : at < length bytes → Wants (read_at bytes at) → read_at (drop at bytes) 0 ≡ Cut
+  pub cut_at : at < length bytes → Wants (read_at bytes at) → read_at (drop at bytes) 0 ≡ Cut
   cut_at h w =
       let kind : get_or (drop at bytes) 0 0 ≡ get_or bytes at 0 = get_or-drop at bytes 0 0 ∙ ap (λ (k : ℕ). get_or bytes k 0) (omega arith) in
       let n : length (drop at bytes) ≡ length bytes - at = length-drop at bytes in
@@ -80,15 +80,14 @@ module _ (bytes : List ℕ) (at : ℕ) where
 pub roomy : {p : List Float} {i : List ℕ} {b : List Float} {l : List ℕ} → 2048 ≤ length p → 1024 ≤ length i → 12288 ≤ length b → 8192 ≤ length l → Roomy (tree p i b l)
 roomy hp hi hb hl = record { points_room = hp; indices_room = hi; boxes_room = hb; links_room = hl }
 
-module _ (bytes : List ℕ) (p : List Float) (out : List ℕ)
-    {p' : List Float} {i' : List ℕ} {b' : List Float} {l' out' : List ℕ} (f : Fed) (F : FedBy bytes 0 p 0 out p' i' b' l' out' f) where
+module _ (bytes out : List ℕ) {p' : List Float} {out' : List ℕ} (f : Fed) (F : FedBy bytes 0 [] out p' out' f) where
   -- what follows the records that were taken is what is left
-  after-all : {whole : Bool} (t' : List ℕ) → on f.stop ≡ true → Fills (length out - length F.text) (so_far p' f.count) (drop f.used bytes) whole t'
+  after-all : {whole : Bool} (t' : List ℕ) → on f.stop ≡ true → Fills (length out - length F.text) p' (drop f.used bytes) whole t'
       → Fills (length out) [] bytes whole (F.text ++ t')
   after-all {whole} t' g l =
       subst (λ (x : List ℕ). Fills (length out) [] x whole (F.text ++ t')) (append-nil bytes)
       (fills-on bytes [] 0 [] F.takes g t'
-      (subst (λ (x : List ℕ). Fills (length out - length F.text) (so_far p' f.count) x whole t') (sym (append-nil (drop f.used bytes))) l))
+      (subst (λ (x : List ℕ). Fills (length out - length F.text) p' x whole t') (sym (append-nil (drop f.used bytes))) l))
 
   waits : f.stop ≡ Hungry → Waits bytes f.used (length out - f.wrote)
   waits e = subst (λ (x : Stop). Ends x bytes f.used (length out - f.wrote)) e F.ends

@@ -10,13 +10,14 @@ use lib.Dec.{T}
 use lib.ListN.{length, get_or}
 use lib.Ieee.{Float, nan}
 use lib.Ieee.Scale.{finite}
-use Rattle.tree.specs.Points.{size, finite_at}
+use Rattle.tree.specs.Points.{size, finite_at, Usable}
 use Rattle.tree.specs.Accepted.{Tree, tree, Accepted}
 use Rattle.tree.specs.Count.{leaf_of, nodes}
 use Rattle.tree.proofs.Counting.{leaf_of-pos, nodes-bound, nodes-none}
 use Rattle.build.specs.Agree.{Held}
 use Rattle.build.specs.Built.{needed}
-use Rattle.build.specs.Outcome.{Told, Usable, Due, odd, many, not_finite, few_indices, few_nodes, allowed, Outcome}
+use Rattle.refusal.specs.Numbers.{Told}
+use Rattle.build.specs.Outcome.{Due, odd, many, not_finite, few_indices, few_nodes, allowed, Outcome}
 use Rattle.build.proofs.Accept.{accepted_of_built}
 use Rattle.stream.specs.Asked.{Raising}
 
@@ -27,7 +28,7 @@ few-needed ls p h = go (size p) h
     go zero h = omega (arith, nodes-none (leaf_of ls))
     go (suc n) h = omega (arith, nodes-bound (leaf_of ls) (suc n) (leaf_of-pos ls) (omega arith))
 
-module _ (ls : ℕ) (p : List Float) (indices : List ℕ) (boxes : List Float) (links : List ℕ) (fresh : Bool) (R : Raising p indices boxes links fresh) where
+module _ (ls : ℕ) (p : List Float) (indices : List ℕ) (boxes : List Float) (links : List ℕ) (R : Raising p indices boxes links) where
   usable : Usable p
   usable = record { even = R.even; in_limit = omega (arith, R.few); all_finite = R.all_finite }
 
@@ -40,7 +41,7 @@ module _ (ls : ℕ) (p : List Float) (indices : List ℕ) (boxes : List Float) (
       go false b A B e = elim A [ ]
       go true false A B e = elim B [ ]
 
-  pub built : (a : Told) → Due ls p (length indices) (length boxes) (length links) a → a.built ≡ true
+  pub built : (a : Told) → Due ls p (length indices) (length boxes) (length links) a → a.given ≡ true
   built a (odd h) = absurd (omega (arith, R.even))
   built a (many h l) = absurd (omega (arith, R.few))
   built a (not_finite {i} h l g f) = absurd (not_bad i g (f.there g))

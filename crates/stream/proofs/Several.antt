@@ -9,7 +9,7 @@ use lib.Ieee.{Float}
 use borrow.Author.Tests.{le-ltb, ltb-false}
 use Rattle.distance.specs.declared.Coord.{Coord}
 use Rattle.tree.specs.Points.{size}
-use Rattle.tree.specs.Accepted.{Tree, tree, count, Accepted}
+use Rattle.tree.specs.Accepted.{Tree, count, Accepted}
 use Rattle.search.specs.Refusal.{refusal}
 use Rattle.search.specs.Answer.{Answer, refused, hits}
 use Rattle.search.specs.declared.Best.{Best}
@@ -17,7 +17,6 @@ use Rattle.tree.proofs.Each.{Each, each_map}
 use Rattle.k_nearest.specs.Scan.{nearest_k}
 use Rattle.k_nearest.specs.Query.{answer, scan_answer}
 use Rattle.k_nearest.proofs.Promise.{k_nearest_is-scan, hits-own}
-use Rattle.stream.specs.Prints.{Replied}
 use Rattle.search.proofs.Unrefused.{refusal-finite}
 use Rattle.stream.proofs.Nearby.{point-unsigned}
 use Rattle.stream.proofs.Listing.{Unsigned}
@@ -42,6 +41,5 @@ several_unsigned t q k room l A e =
     let f = refusal-finite t.points q (hits-refusal t q k room l (sym (k_nearest_is-scan t q k room A) ∙ e)) in
     each_map l (λ s o. subst Unsigned (sym o.own) (point-unsigned t q s.index A f.0 f.1 o.inside)) (hits-own t q k room l e)
 
-pub several_prints : (p : List Float) (i : List ℕ) (b : List Float) (l : List ℕ) (q : Coord) (k room : ℕ) → Accepted (tree p i b l) → size p ≤ room → (text : List ℕ)
-    → Replied 75 (answer (tree p i b l) q k room) text → Replied 75 (scan_answer p q k (size p)) text
-several_prints p i b l q k room A h text R = subst (λ (a : Answer). Replied 75 a text) (k_nearest_is-scan (tree p i b l) q k room A ∙ scan-room p q k room h) R
+pub several_scan : (t : Tree) (q : Coord) (k room : ℕ) → Accepted t → count t ≤ room → answer t q k room ≡ scan_answer t.points q k (count t)
+several_scan t q k room A h = k_nearest_is-scan t q k room A ∙ scan-room t.points q k room h

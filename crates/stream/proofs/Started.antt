@@ -1,5 +1,5 @@
 -- Before any record: slices of the lengths that are asked for hold no points. Assumes nothing.
-use Prim.Native.Nat.{ℕ, ◌*◌, ◌≤◌}
+use Prim.Native.Nat.{ℕ, ◌*◌}
 use mathlib.Core.Path.{sym, subst}
 use mathlib.Core.List.{List}
 use mathlib.Core.Bool.{false}
@@ -8,16 +8,17 @@ use lib.Dec.{T}
 use lib.ListN.{length}
 use lib.Seq.{length-take-le}
 use lib.Ieee.{Float}
+use Rattle.tree.specs.Accepted.{tree}
 use Rattle.stream.specs.Feeding.{Ready}
+use Rattle.stream.specs.Printing.{Roomy}
 
-pub started : (p : List Float) (indices : List ℕ) (boxes : List Float) (links : List ℕ) → 2048 ≤ length p → 1024 ≤ length indices → 12288 ≤ length boxes
-    → 8192 ≤ length links → Ready p 0 indices boxes links false
-started p indices boxes links hp hi hb hl = record {
+pub started : (p : List Float) (indices : List ℕ) (boxes : List Float) (links : List ℕ) → Roomy (tree p indices boxes links) → Ready p 0 indices boxes links false
+started p indices boxes links r = record {
   few = omega arith;
-  points_room = hp;
-  indices_room = hi;
-  boxes_room = hb;
-  links_room = hl;
+  points_room = r.points_room;
+  indices_room = r.indices_room;
+  boxes_room = r.boxes_room;
+  links_room = r.links_room;
   all_finite = λ k h. absurd (omega (arith, length-take-le (2 * 0) p (omega arith)));
   stands = λ g. absurd (subst T (sym g) tt);
 }

@@ -1,8 +1,10 @@
 -- A stream taken piece by piece, in lent slices: what the contracts of `stream` ask and promise.
 --   so_far p n               the points so far: the first n of a slice
---   Ready p n i b l fresh    at most 1,024 points, all finite, room for them and their tree; where it is fresh, the tree stands
---   Kept p n x y p' r        a point was kept after n others, and r is 0; or it was refused by the number r
---   Replies what t o at o' w the query `what` over the points of a tree t was answered: its lines stand in o' from `at` on
+--   Ready p n i b l fresh    at most 1,024 points, all finite, room for them and their tree; where it is fresh, the tree stands.
+--                            A `Map` keeps it
+--   Map                      what a contract sees of one: the points so far, and whether their tree stands
+--   Kept p x y p' r          a point was kept after the points p, and r is no refusal; or it was refused by r's number
+--   Replies what p o at o' w the query `what` over the points p was answered: its lines stand in o' from `at` on
 --   Stepped ..               one record was taken
 --   longest                  no record's lines are longer; none is taken where there is room for less
 --   Takes room s from p text at q going   records of s from `from` on, the points so far p, printed text, each where `longest`
@@ -11,16 +13,17 @@
 --   Ends stop s at left      why no further record was taken, with room for `left` bytes left: the room is tested first
 --   on stop                  the stream goes on
 --   FedBy ..                 what `feed` makes of a piece
-use Rattle.std.specs.Prelude.{◌≡◌, List, [], ◌∷◌, ◌++◌, Bool, true, false, cond, ℕ, ◌+◌, ◌-◌, ◌*◌, ◌≤◌, ◌<◌, eqb, length, take, Float}
-use Rattle.std.proofs.lemmas.List.Edits.{sets}
-use Rattle.tree.specs.Points.{AllFinite}
+use Rattle.std.specs.Prelude.{◌≡◌, List, [], ◌++◌, Bool, true, false, ℕ, ◌+◌, ◌-◌, ◌*◌, ◌≤◌, ◌<◌, length, take, Float, Result}
+use Rattle.refusal.specs.Numbers.{done}
+use Rattle.refusal.specs.declared.Refusal.{Refusal}
+use Rattle.tree.specs.Points.{size, AllFinite}
 use Rattle.tree.specs.Accepted.{tree, Accepted}
 use Rattle.records.specs.Record.{read_at}
 use Rattle.records.specs.declared.Record.{Record}
+use Rattle.records.specs.declared.Record.TheVariants.{Point}
 use Rattle.records.specs.declared.Read.{Read}
 use Rattle.records.specs.declared.Read.TheVariants.{Whole, Cut, End}
 use Rattle.text.specs.Line.{Put}
-use Rattle.stream.specs.declared.Step.{Step}
 use Rattle.stream.specs.declared.Fed.{Fed}
 use Rattle.stream.specs.declared.Stop.{Stop}
 use Rattle.stream.specs.declared.Stop.TheVariants.{Hungry, Full, Done}
@@ -39,9 +42,13 @@ pub record Ready (p : List Float) (n : ℕ) (indices : List ℕ) (boxes : List F
   pub all_finite : AllFinite (so_far p n)
   pub stands : fresh ≡ true → Accepted (tree (so_far p n) indices boxes links)
 
-pub record Kept (p : List Float) (n : ℕ) (x y : Float) (p' : List Float) (r : ℕ) : Type 0 where
-  pub number : r ≡ keep_number n x y
-  pub points : p' ≡ cond (eqb r 0) (sets p (2 * n) (x ∷ y ∷ [])) p
+pub record Map : Type 0 where
+  pub points : List Float
+  pub fresh : Bool
+
+pub record Kept (p : List Float) (x y : Float) (p' : List Float) (r : Result Unit Refusal) : Type 0 where
+  pub number : (done r).number ≡ keep_number (size p) x y
+  pub points : p' ≡ after p (Point x y)
 
 abbrev pub longest : ℕ
 longest = 32768
@@ -52,12 +59,10 @@ pub record Replies (what : Record) (p : List Float) (out : List ℕ) (at : ℕ) 
   pub short : length text ≤ longest
   pub put : Put out at text out' wrote
 
-pub record Stepped (what : Record) (p : List Float) (n : ℕ) (out : List ℕ) (at : ℕ)
-    (p' : List Float) (indices' : List ℕ) (boxes' : List Float) (links' out' : List ℕ) (s : Step) : Type 0 where
-  pub replies : Replies what (so_far p n) out at out' s.wrote
-  pub points : so_far p' s.count ≡ after (so_far p n) what
-  pub ready : Ready p' s.count indices' boxes' links' s.fresh
-  pub going : s.going ≡ goes what
+pub record Stepped (what : Record) (p : List Float) (out : List ℕ) (at : ℕ) (p' : List Float) (out' : List ℕ) (wrote : ℕ) (on : Bool) : Type 0 where
+  pub replies : Replies what p out at out' wrote
+  pub points : p' ≡ after p what
+  pub going : on ≡ goes what
 
 pub data Takes (room : ℕ) (s : List ℕ) (from : ℕ) (p : List Float) : List ℕ → ℕ → List Float → Bool → Type 0 where
   none : Takes room s from p [] from p true
@@ -83,12 +88,10 @@ on Hungry = true
 on Full = true
 on Done = false
 
-pub record FedBy (s : List ℕ) (from : ℕ) (p : List Float) (n : ℕ) (out : List ℕ)
-    (p' : List Float) (indices' : List ℕ) (boxes' : List Float) (links' out' : List ℕ) (f : Fed) : Type 0 where
+pub record FedBy (s : List ℕ) (from : ℕ) (p : List Float) (out : List ℕ) (p' : List Float) (out' : List ℕ) (f : Fed) : Type 0 where
   pub text : List ℕ
-  pub takes : Takes (length out) s from (so_far p n) text f.used (so_far p' f.count) (on f.stop)
+  pub takes : Takes (length out) s from p text f.used p' (on f.stop)
   pub ends : Ends f.stop s f.used (length out - f.wrote)
   pub put : Put out 0 text out' f.wrote
-  pub ready : Ready p' f.count indices' boxes' links' f.fresh
   pub inside : from ≤ length s → f.used ≤ length s
   pub room : f.wrote ≤ length out

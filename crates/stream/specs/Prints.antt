@@ -21,11 +21,11 @@ use Rattle.tree.specs.Points.{size}
 use Rattle.tree.specs.Accepted.{Tree, tree}
 use Rattle.root.specs.Root.{Root}
 use Rattle.search.specs.Answer.{Answer, refused, damaged, hits}
-use Rattle.search.specs.Order.{point}
+use Rattle.search.specs.Order.{point, at}
 use Rattle.search.specs.Result.{Roots, indices_of, squares_of}
 use Rattle.search.specs.declared.Best.{Best}
 use Rattle.nearest.specs.Nearest as n
-use Rattle.nearest.specs.Nearest.{Reply, near_scan, at}
+use Rattle.nearest.specs.Nearest.{Reply, near_scan}
 use Rattle.k_nearest.specs.Query.{scan_answer}
 use Rattle.radius.specs.Within as w
 use Rattle.labels.specs.Labels.{near, Labelled, hits as passing}

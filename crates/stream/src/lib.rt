@@ -1,272 +1,315 @@
-// The record stream on slices: points are kept, queries over the points so far are answered as lines.
-//
-// `print_all` prints a whole stream at once, from any slices whatever. It stands on `feed`, which takes the whole records of a
-// piece of input, as far as there is room for their lines, and says where it stopped; the caller writes the lines out and comes
-// back with what was left and more. A tree of the points is built for the first query after a point came, and kept until the
-// next one comes. Whatever the pieces, they print what the whole prints.
+//! The record stream on slices: points are kept, queries over the points so far are answered as lines.
+//!
+//! `print_all` prints a whole stream at once, from any slices whatever. It stands on `feed`, which takes the whole records
+//! of a piece of input, as far as there is room for their lines, and says where it stopped; the caller writes the lines out
+//! and comes back with what was left and more. A tree of the points is built for the first query after a point came, and
+//! kept until the next one comes. Whatever the pieces, they print what the whole prints.
 #![tactic(auto)]
 
-ghost use Rattle.std.specs.Prelude.{◌+◌, ◌≤◌, length};
-ghost use Rattle.tree.specs.Accepted.{tree, Accepted};
-ghost use Rattle.records.specs.declared.Record.TheVariants.{Nearest as AskNearest, KNearest as AskKNearest, Radius as AskRadius, Label as AskLabel};
-ghost use Rattle.stream.specs.Feeding.{Ready, Kept, Replies, Stepped, FedBy};
-ghost use Rattle.stream.specs.Printing.{PrintedBy};
+ghost use Rattle.std.specs.Prelude.{◌≡◌, true, ◌+◌, ◌≤◌, [], length, Ok};
+ghost use Rattle.distance.specs.declared.Coord.{Coord};
+ghost use Rattle.refusal.specs.Numbers.{number};
+ghost use Rattle.tree.specs.Accepted.{tree, count, Accepted};
+ghost use Rattle.search.specs.Answer.{Answers};
+ghost use Rattle.records.specs.declared.Record.TheVariants.{Nearest as AskNearest, Label as AskLabel};
 ghost use Rattle.text.specs.Line.{Put};
-ghost use Rattle.stream.specs.Asked.{Raising, Asking, Listing, Labelling as Labels, Plain, Writes, found_text, Query};
+ghost use Rattle.stream.specs.Prints.{error, limit_points, Floats};
+ghost use Rattle.stream.specs.Feeding.{Kept, Replies, Stepped, FedBy, longest};
+ghost use Rattle.stream.specs.Printing.{PrintedBy, Roomy};
+ghost use Rattle.stream.specs.Asked.{Raising, Asking, Plain, Writes, found_text, Query, asked, letter_of, listed};
 
 use build::BallTreeBuilder;
-use dbscan::Labelling;
+use distance::Coord;
 use nearest::Nearest;
 use records::{Read, Record};
-use search::Found;
+use refusal::Refusal;
+use std::marker::Model;
+use text::Writer;
+use tree::Tree;
+
+/// The most points that a stream keeps.
+pub const MAX_POINTS: usize = 1024;
+
+/// Room for their coordinates, x and y in turn.
+pub const COORDINATES: usize = 2 * MAX_POINTS;
+
+// A tree has fewer nodes than twice its points.
+const MAX_NODES: usize = 2 * MAX_POINTS;
+
+/// Room for the boxes of their tree, six floats a node.
+pub const BOXES: usize = 6 * MAX_NODES;
+
+/// Room for its links, four numbers a node.
+pub const LINKS: usize = 4 * MAX_NODES;
 
 // The room that is asked for before a record is taken: no record's lines are longer.
 const LONGEST: usize = 32768;
 
-// After a record: the points so far, where its lines end, whether the tree is that of these points, whether the stream goes on.
-#[derive(Clone, Copy)]
-pub struct Step {
-    pub count: usize,
-    pub wrote: usize,
-    pub fresh: bool,
-    pub going: bool,
-}
-
-// Why no further record was taken.
-#[derive(Clone, Copy)]
+/// Why no further record was taken.
+#[derive(Clone, Copy, Debug, PartialEq, Eq)]
 pub enum Stop {
-    // The rest of the input is no whole record.
+    /// The rest of the input is no whole record.
     Hungry,
-    // The output wants flushing.
+    /// The output wants flushing.
     Full,
-    // The stream ended by 10.
+    /// The stream ended by 10.
     Done,
 }
 
-// After a piece: how much of it is used, and the rest as in `Step`.
-#[derive(Clone, Copy)]
+/// After a piece: how much of it is used, where the lines end, and why no further record was taken.
+#[derive(Clone, Copy, Debug, PartialEq, Eq)]
 pub struct Fed {
     pub used: usize,
-    pub count: usize,
     pub wrote: usize,
-    pub fresh: bool,
     pub stop: Stop,
 }
 
-// After a whole stream: where its lines end.
-#[derive(Clone, Copy)]
+/// After a whole stream: where its lines end.
+#[derive(Clone, Copy, Debug, PartialEq, Eq)]
 pub enum Printed {
-    // They are all there.
+    /// They are all there.
     Whole(usize),
-    // Fewer than 32,768 bytes of room were left before the next record or the end: these are the lines up to there.
+    /// Fewer than 32,768 bytes of room were left before the next record or the end: these are the lines up to there.
     Full(usize),
-    // A slice for the points or their tree is too short: none has changed.
+    /// A slice for the points or their tree is too short: none has changed.
     Short,
 }
 
 // ---- the points
 
-// Keeps a point after the others, or answers the number of the refusal.
-fn keep(points: &mut [f64], n: usize, x: f64, y: f64) -> u32
-    requires { (n ≤ 1024) × (2048 ≤ length points.old) }
-    ensures { Kept points.old n x y points.new result }
-{
-    if 1024 <= n {
-        return 2;
-    }
-    if !distance::is_finite(x) {
-        return 3;
-    }
-    if !distance::is_finite(y) {
-        return 3;
-    }
-    points[2 * n] = x;
-    points[2 * n + 1] = y;
-    0
+/// The points so far, in slices that the caller lends, and whether their tree stands beside them.
+#[derive(Debug, Drop)]
+pub struct Map<'a> {
+    points: &'a mut [f64],
+    count: usize,
+    indices: &'a mut [u32],
+    boxes: &'a mut [f64],
+    links: &'a mut [u32],
+    // Whether the tree is that of the points.
+    fresh: bool,
 }
 
-// The tree of the points, built anew unless it is fresh.
-fn raise(points: &[f64], indices: &mut [u32], boxes: &mut [f64], links: &mut [u32], fresh: bool)
-    requires { Raising points.now indices.old boxes.old links.old fresh }
+impl<'a> Model for Map<'a> {
+    ghost use Rattle.stream.specs.Feeding.{so_far, Ready, Map};
+
+    ghost Value = { Map };
+
+    ghost view = { λ m. record { points = so_far m.points.now m.count; fresh = m.fresh } };
+
+    ghost invariant = { λ m. Ready m.points.now m.count m.indices.now m.boxes.now m.links.now m.fresh };
+}
+
+// The tree of some points, where no row of the refusals applies.
+fn grow(points: &[f64], indices: &mut [u32], boxes: &mut [f64], links: &mut [u32])
+    requires { Raising points.now indices.old boxes.old links.old }
     ensures { Accepted (tree points.now indices.new boxes.new links.new) }
 {
-    if fresh {
-        return;
+    let _ = BallTreeBuilder::new().build(points, indices, boxes, links);
+}
+
+impl<'a> Map<'a> {
+    /// No points so far. An inner function: its callers, `print_all` and `serve::run`, have seen to the room.
+    pub fn new(
+        points: &'a mut [f64],
+        indices: &'a mut [u32],
+        boxes: &'a mut [f64],
+        links: &'a mut [u32],
+    ) -> Self
+        requires roomy { Roomy (tree points.old indices.old boxes.old links.old) }
+        ensures none { result.points ≡ [] }
+    {
+        Map {
+            points,
+            count: 0,
+            indices,
+            boxes,
+            links,
+            fresh: false,
+        }
     }
-    BallTreeBuilder::new().build(points, indices, boxes, links);
+
+    // Keeps a point after the others.
+    fn keep(&mut self, place: Coord) -> Result<(), Refusal>
+        ensures kept { Kept self.old.points place.x place.y self.new.points result }
+    {
+        if self.count >= MAX_POINTS {
+            return Err(Refusal::TooManyPoints);
+        }
+        if !place.is_finite() {
+            return Err(Refusal::PointNotFinite(self.count as u32));
+        }
+        let at = 2 * self.count;
+        self.points[at] = place.x;
+        self.points[at + 1] = place.y;
+        self.count += 1;
+        self.fresh = false;
+        Ok(())
+    }
+
+    // Builds the tree of the points, unless it stands.
+    fn raise(&mut self)
+        ensures points { self.new.points ≡ self.old.points }
+        ensures fresh { self.new.fresh ≡ true }
+    {
+        if !self.fresh {
+            let end = 2 * self.count;
+            grow(
+                &mut self.points[..end],
+                self.indices,
+                self.boxes,
+                self.links,
+            );
+            self.fresh = true;
+        }
+    }
+
+    // The tree that stands.
+    fn tree(&self) -> Tree
+        requires fresh { self.now.fresh ≡ true }
+        ensures points { result.points ≡ self.now.points }
+        ensures few { count result ≤ limit_points }
+        ensures stands { Accepted result }
+    {
+        let end = 2 * self.count;
+        Tree::new(&self.points[..end], self.indices, self.boxes, self.links)
+    }
+
+    // Takes one record and writes its lines; whether the stream goes on.
+    fn take(&mut self, what: Record, lines: &mut Writer) -> bool
+        requires room { lines.old.at + longest ≤ length lines.old.out.now }
+        ensures same_reference { lines.new.out.ghost_name ≡ lines.old.out.ghost_name }
+        ensures stepped { Stepped what self.old.points lines.old.out.now lines.old.at self.new.points lines.new.out.now lines.new.at result }
+    {
+        match what {
+            Record::Point(x, y) => {
+                if let Err(refusal) = self.keep(Coord { x, y }) {
+                    put_error(refusal, lines);
+                }
+                true
+            }
+            Record::Unknown => {
+                put_error(Refusal::UnknownRecord, lines);
+                false
+            }
+            _ => {
+                self.raise();
+                let tree = self.tree();
+                reply(what, &tree, lines);
+                true
+            }
+        }
+    }
 }
 
 // ---- the queries
 
-// The lines of a nearest query.
-fn say_nearest(
-    points: &[f64],
-    indices: &[u32],
-    boxes: &[f64],
-    links: &[u32],
-    x: f64,
-    y: f64,
-    out: &mut [u8],
-    at: usize,
-) -> usize
-    requires { Asking points.now indices.now boxes.now links.now out.old at }
-    ensures { Replies (AskNearest x y) points.now out.old at out.new result }
+// The line of a refusal.
+fn put_error(refusal: Refusal, lines: &mut Writer)
+    requires room { lines.old.at + 13 ≤ length lines.old.out.now }
+    ensures same_reference { lines.new.out.ghost_name ≡ lines.old.out.ghost_name }
+    ensures put { Put lines.old.out.now lines.old.at (error (number refusal)) lines.new.out.now lines.new.at }
 {
-    let found = nearest::nearest_neighbour(points, indices, boxes, links, x, y);
-    match found {
-        Nearest::Hit(index, distance) => text::put_nearest(out, at, index, distance),
-        Nearest::Empty => text::put_none(out, at),
-        Nearest::Refused(number) => text::put_count(out, at, b'E', number),
+    lines.put_count(b'E', refusal.number());
+}
+
+// The lines of a nearest query.
+fn say_nearest(tree: &Tree, place: Coord, lines: &mut Writer)
+    requires { Asking tree.now lines.old.out.now lines.old.at }
+    ensures same_reference { lines.new.out.ghost_name ≡ lines.old.out.ghost_name }
+    ensures replies { Replies (AskNearest place.x place.y) tree.now.points lines.old.out.now lines.old.at lines.new.out.now lines.new.at }
+{
+    match nearest::nearest_neighbour(tree, place) {
+        Nearest::Hit(index, distance) => lines.put_nearest(index, distance),
+        Nearest::Empty => lines.put_none(),
+        Nearest::Refused(refusal) => put_error(refusal, lines),
+    }
+}
+
+// What a query lists: so many of the nearest points, or those within a radius.
+#[derive(Clone, Copy, Debug, PartialEq)]
+enum Wanted {
+    Nearest(u32),
+    Within(f64),
+}
+
+impl Wanted {
+    // The letter in front of the count.
+    fn letter(self) -> u8
+        ensures { result ≡ letter_of self }
+    {
+        match self {
+            Wanted::Nearest(_) => b'K',
+            Wanted::Within(_) => b'R',
+        }
+    }
+
+    // The hits, into two slices of 1,024.
+    fn find(
+        self,
+        tree: &Tree,
+        place: Coord,
+        near: &mut [u32],
+        far: &mut [f64],
+    ) -> Result<u32, Refusal>
+        requires stands { Accepted tree.now }
+        requires near_room { count tree.now ≤ length near.old }
+        requires far_room { count tree.now ≤ length far.old }
+        ensures answers { Answers (listed self tree.now.points place) near.old far.old result near.new far.new }
+        ensures floats { Floats far.new }
+    {
+        match self {
+            Wanted::Nearest(k) => k_nearest::nearest_neighbours(tree, place, k, near, far),
+            Wanted::Within(radius) => radius::within_radius(tree, place, radius, near, far),
+        }
     }
 }
 
 // The lines of hits, a letter and their count in front; or of a refusal.
 fn put_found(
-    out: &mut [u8],
-    at: usize,
+    found: Result<u32, Refusal>,
     letter: u8,
-    found: Found,
     indices: &[u32],
     distances: &[f64],
-) -> usize
-    requires { Writes out.old at found indices.now distances.now }
-    ensures { Put out.old at (found_text letter found indices.now distances.now) out.new result }
+    lines: &mut Writer,
+)
+    requires { Writes lines.old.out.now lines.old.at found indices.now distances.now }
+    ensures same_reference { lines.new.out.ghost_name ≡ lines.old.out.ghost_name }
+    ensures put { Put lines.old.out.now lines.old.at (found_text letter found indices.now distances.now) lines.new.out.now lines.new.at }
 {
     match found {
-        Found::Hits(count) => {
-            let next = text::put_count(out, at, letter, count);
-            text::put_hits(out, next, indices, distances, count as usize)
+        Ok(count) => {
+            let n = count as usize;
+            lines.put_count(letter, count);
+            lines.put_hits(&indices[..n], &distances[..n]);
         }
-        Found::Refused(number, _) => text::put_count(out, at, b'E', number),
+        Err(refusal) => put_error(refusal, lines),
     }
 }
 
-// The lines of a k-nearest query, its hits in two slices of 1,024.
-fn list_k_nearest(
-    points: &[f64],
-    indices: &[u32],
-    boxes: &[f64],
-    links: &[u32],
-    x: f64,
-    y: f64,
-    k: u32,
-    near: &mut [u32],
-    far: &mut [f64],
-    out: &mut [u8],
-    at: usize,
-) -> usize
-    requires { Listing points.now indices.now boxes.now links.now near.old far.old out.old at }
-    ensures { Replies (AskKNearest x y k) points.now out.old at out.new result }
+// The lines of a query that lists hits.
+fn say_hits(wanted: Wanted, tree: &Tree, place: Coord, lines: &mut Writer)
+    requires { Asking tree.now lines.old.out.now lines.old.at }
+    ensures same_reference { lines.new.out.ghost_name ≡ lines.old.out.ghost_name }
+    ensures replies { Replies (asked wanted place) tree.now.points lines.old.out.now lines.old.at lines.new.out.now lines.new.at }
 {
-    let found = k_nearest::nearest_neighbours(points, indices, boxes, links, x, y, k, near, far);
-    put_found(out, at, b'K', found, near, far)
-}
-
-// The lines of a radius query, likewise.
-fn list_radius(
-    points: &[f64],
-    indices: &[u32],
-    boxes: &[f64],
-    links: &[u32],
-    x: f64,
-    y: f64,
-    radius: f64,
-    near: &mut [u32],
-    far: &mut [f64],
-    out: &mut [u8],
-    at: usize,
-) -> usize
-    requires { Listing points.now indices.now boxes.now links.now near.old far.old out.old at }
-    ensures { Replies (AskRadius x y radius) points.now out.old at out.new result }
-{
-    let found = radius::within_radius(points, indices, boxes, links, x, y, radius, near, far);
-    put_found(out, at, b'R', found, near, far)
+    let mut near = [0u32; MAX_POINTS];
+    let mut far = [0.0f64; MAX_POINTS];
+    let found = wanted.find(tree, place, &mut near, &mut far);
+    put_found(found, wanted.letter(), &near, &far, lines);
 }
 
 // The lines of a label query, over a tree of its own.
-fn list_labels(
-    points: &[f64],
-    epsilon: f64,
-    samples: u32,
-    indices: &mut [u32],
-    boxes: &mut [f64],
-    links: &mut [u32],
-    labels: &mut [u32],
-    work: &mut [u32],
-    out: &mut [u8],
-    at: usize,
-) -> usize
-    requires { Labels points.now indices.old boxes.old links.old labels.old work.old out.old at }
-    ensures { Replies (AskLabel epsilon samples) points.now out.old at out.new result }
+fn say_labels(points: &[f64], epsilon: f64, samples: u32, lines: &mut Writer)
+    requires { Plain points.now lines.old.out.now lines.old.at }
+    ensures same_reference { lines.new.out.ghost_name ≡ lines.old.out.ghost_name }
+    ensures replies { Replies (AskLabel epsilon samples) points.now lines.old.out.now lines.old.at lines.new.out.now lines.new.at }
 {
+    let mut indices = [0u32; MAX_POINTS];
+    let mut boxes = [0.0f64; BOXES];
+    let mut links = [0u32; LINKS];
+    let mut labels = [0u32; MAX_POINTS];
+    let mut work = [0u32; 2 * MAX_POINTS];
     let answer = dbscan::dbscan(
-        points, epsilon, samples, indices, boxes, links, labels, work,
-    );
-    match answer {
-        Labelling::Labelled => {
-            let n = points.len() / 2;
-            let next = text::put_count(out, at, b'C', n as u32);
-            text::put_labels(out, next, labels, n)
-        }
-        Labelling::Refused(number, _) => text::put_count(out, at, b'E', number),
-    }
-}
-
-// The lines of a k-nearest query.
-fn say_k_nearest(
-    points: &[f64],
-    indices: &[u32],
-    boxes: &[f64],
-    links: &[u32],
-    x: f64,
-    y: f64,
-    k: u32,
-    out: &mut [u8],
-    at: usize,
-) -> usize
-    requires { Asking points.now indices.now boxes.now links.now out.old at }
-    ensures { Replies (AskKNearest x y k) points.now out.old at out.new result }
-{
-    let mut near = [0u32; 1024];
-    let mut far = [0.0f64; 1024];
-    list_k_nearest(
-        points, indices, boxes, links, x, y, k, &mut near, &mut far, out, at,
-    )
-}
-
-// The lines of a radius query.
-fn say_radius(
-    points: &[f64],
-    indices: &[u32],
-    boxes: &[f64],
-    links: &[u32],
-    x: f64,
-    y: f64,
-    radius: f64,
-    out: &mut [u8],
-    at: usize,
-) -> usize
-    requires { Asking points.now indices.now boxes.now links.now out.old at }
-    ensures { Replies (AskRadius x y radius) points.now out.old at out.new result }
-{
-    let mut near = [0u32; 1024];
-    let mut far = [0.0f64; 1024];
-    list_radius(
-        points, indices, boxes, links, x, y, radius, &mut near, &mut far, out, at,
-    )
-}
-
-// The lines of a label query.
-fn say_labels(points: &[f64], epsilon: f64, samples: u32, out: &mut [u8], at: usize) -> usize
-    requires { Plain points.now out.old at }
-    ensures { Replies (AskLabel epsilon samples) points.now out.old at out.new result }
-{
-    let mut indices = [0u32; 1024];
-    let mut boxes = [0.0f64; 12288];
-    let mut links = [0u32; 8192];
-    let mut labels = [0u32; 1024];
-    let mut work = [0u32; 2048];
-    list_labels(
         points,
         epsilon,
         samples,
@@ -275,152 +318,71 @@ fn say_labels(points: &[f64], epsilon: f64, samples: u32, out: &mut [u8], at: us
         &mut links,
         &mut labels,
         &mut work,
-        out,
-        at,
-    )
+    );
+    match answer {
+        Ok(()) => {
+            let n = points.len() / 2;
+            lines.put_count(b'C', n as u32);
+            lines.put_labels(&labels[..n]);
+        }
+        Err(refusal) => put_error(refusal, lines),
+    }
 }
 
 // The lines of a query over the points of a tree that stands.
-fn reply(
-    what: Record,
-    points: &[f64],
-    indices: &[u32],
-    boxes: &[f64],
-    links: &[u32],
-    out: &mut [u8],
-    at: usize,
-) -> usize
-    requires { Query what × Asking points.now indices.now boxes.now links.now out.old at }
-    ensures { Replies what points.now out.old at out.new result }
+fn reply(query: Record, tree: &Tree, lines: &mut Writer)
+    requires query { Query query }
+    requires asking { Asking tree.now lines.old.out.now lines.old.at }
+    ensures same_reference { lines.new.out.ghost_name ≡ lines.old.out.ghost_name }
+    ensures replies { Replies query tree.now.points lines.old.out.now lines.old.at lines.new.out.now lines.new.at }
 {
-    match what {
-        Record::Nearest(x, y) => say_nearest(points, indices, boxes, links, x, y, out, at),
-        Record::KNearest(x, y, k) => say_k_nearest(points, indices, boxes, links, x, y, k, out, at),
+    match query {
+        Record::Nearest(x, y) => say_nearest(tree, Coord { x, y }, lines),
+        Record::KNearest(x, y, k) => say_hits(Wanted::Nearest(k), tree, Coord { x, y }, lines),
         Record::Radius(x, y, radius) => {
-            say_radius(points, indices, boxes, links, x, y, radius, out, at)
+            say_hits(Wanted::Within(radius), tree, Coord { x, y }, lines)
         }
-        Record::Label(epsilon, samples) => say_labels(points, epsilon, samples, out, at),
-        Record::Point(_, _) => at,
-        Record::Unknown => text::put_count(out, at, b'E', 10),
+        Record::Label(epsilon, samples) => say_labels(tree.points(), epsilon, samples, lines),
+        Record::Point(_, _) => {}
+        Record::Unknown => put_error(Refusal::UnknownRecord, lines),
     }
 }
 
 // ---- the stream
 
-// Takes one record: its lines go to `out` from `at` on.
-fn take_one(
-    what: Record,
-    points: &mut [f64],
-    n: usize,
-    indices: &mut [u32],
-    boxes: &mut [f64],
-    links: &mut [u32],
-    fresh: bool,
-    out: &mut [u8],
-    at: usize,
-) -> Step
-    requires { Ready points.old n indices.old boxes.old links.old fresh × (at + 32768 ≤ length out.old) }
-    ensures { Stepped what points.old n out.old at points.new indices.new boxes.new links.new out.new result }
+/// Takes the whole records of `input` from `from` on, as far as there is room in `out`, which it fills from its start.
+pub fn feed(input: &[u8], from: usize, map: &mut Map, out: &mut [u8]) -> Fed
+    ensures { FedBy input.now from map.old.points out.old map.new.points out.new result }
 {
-    match what {
-        Record::Point(x, y) => {
-            let e = keep(points, n, x, y);
-            if e == 0 {
-                return Step {
-                    count: n + 1,
-                    wrote: at,
-                    fresh: false,
-                    going: true,
-                };
-            }
-            let next = text::put_count(out, at, b'E', e);
-            Step {
-                count: n,
-                wrote: next,
-                fresh,
-                going: true,
-            }
-        }
-        Record::Unknown => {
-            let next = text::put_count(out, at, b'E', 10);
-            Step {
-                count: n,
-                wrote: next,
-                fresh,
-                going: false,
-            }
-        }
-        _ => {
-            let m = 2 * n;
-            raise(&points[..m], indices, boxes, links, fresh);
-            let next = reply(what, &points[..m], indices, boxes, links, out, at);
-            Step {
-                count: n,
-                wrote: next,
-                fresh: true,
-                going: true,
-            }
-        }
-    }
-}
-
-// Takes the whole records of `input` from `from` on, as far as there is room in `out`, which it fills from its start.
-// An inner function: it is handed the points and the tree that it left, so it asks that they still stand. Its callers are
-// `print_all`, and `serve::run`, which keeps them between pieces; neither asks anything.
-pub fn feed(
-    input: &[u8],
-    from: usize,
-    points: &mut [f64],
-    count: usize,
-    indices: &mut [u32],
-    boxes: &mut [f64],
-    links: &mut [u32],
-    fresh: bool,
-    out: &mut [u8],
-) -> Fed
-    requires { Ready points.old count indices.old boxes.old links.old fresh }
-    ensures { FedBy input.now from points.old count out.old points.new indices.new boxes.new links.new out.new result }
-{
-    let mut at = from;
-    let mut n = count;
-    let mut w: usize = 0;
-    let mut up = fresh;
-    while LONGEST <= out.len() - w {
-        let Read::Whole(what, next) = records::read_at(input, at) else {
+    let mut lines = Writer::new(out, 0);
+    let mut used = from;
+    while lines.out.len() - lines.at >= LONGEST {
+        let Read::Whole(what, next) = records::read_at(input, used) else {
             return Fed {
-                used: at,
-                count: n,
-                wrote: w,
-                fresh: up,
+                used,
+                wrote: lines.at,
                 stop: Stop::Hungry,
             };
         };
-        let s = take_one(what, points, n, indices, boxes, links, up, out, w);
-        n = s.count;
-        w = s.wrote;
-        up = s.fresh;
-        at = next;
-        if !s.going {
+        let goes_on = map.take(what, &mut lines);
+        used = next;
+        if !goes_on {
             return Fed {
-                used: at,
-                count: n,
-                wrote: w,
-                fresh: up,
+                used,
+                wrote: lines.at,
                 stop: Stop::Done,
             };
         }
     }
     Fed {
-        used: at,
-        count: n,
-        wrote: w,
-        fresh: up,
+        used,
+        wrote: lines.at,
         stop: Stop::Full,
     }
 }
 
-// Prints the whole stream of `input` into `out`, from its start. Any slices do; points, indices, boxes and links are work, and hold
-// what it left.
+/// Prints the whole stream of `input` into `out`, from its start. Any slices do; points, indices, boxes and links are work,
+/// and hold what it left.
 pub fn print_all(
     input: &[u8],
     points: &mut [f64],
@@ -431,30 +393,25 @@ pub fn print_all(
 ) -> Printed
     ensures { PrintedBy input.now (tree points.old indices.old boxes.old links.old) out.old (tree points.new indices.new boxes.new links.new) out.new result }
 {
-    if points.len() < 2048 {
+    if points.len() < COORDINATES
+        || indices.len() < MAX_POINTS
+        || boxes.len() < BOXES
+        || links.len() < LINKS
+    {
         return Printed::Short;
     }
-    if indices.len() < 1024 {
-        return Printed::Short;
-    }
-    if boxes.len() < 12288 {
-        return Printed::Short;
-    }
-    if links.len() < 8192 {
-        return Printed::Short;
-    }
-    let f = feed(input, 0, points, 0, indices, boxes, links, false, out);
-    let wrote = f.wrote;
-    let used = f.used;
-    let stop = f.stop;
-    match stop {
-        Stop::Full => Printed::Full(wrote),
-        Stop::Done => Printed::Whole(wrote),
+    let mut map = Map::new(points, indices, boxes, links);
+    let fed = feed(input, 0, &mut map, out);
+    match fed.stop {
+        Stop::Full => Printed::Full(fed.wrote),
+        Stop::Done => Printed::Whole(fed.wrote),
         Stop::Hungry => {
-            if used < input.len() {
-                return Printed::Whole(text::put_count(out, wrote, b'E', 10));
+            if fed.used < input.len() {
+                let mut lines = Writer::new(out, fed.wrote);
+                put_error(Refusal::UnknownRecord, &mut lines);
+                return Printed::Whole(lines.at);
             }
-            Printed::Whole(wrote)
+            Printed::Whole(fed.wrote)
         }
     }
 }

@@ -1,11 +1,7 @@
--- `serve::drive` meets its contract: each turn leaves what the next asks. Assumes nothing.
-use Rattle.serve.specs.Good.{Good}
-use Rattle.stream.specs.Feeding.{Ready}
-use Rattle.std.specs.Prelude.{length}
+-- What has been written goes on to what is still to come. Assumes nothing.
+use Rattle.serve.specs.Serving.{Turns}
 use Rattle.serve.proofs.drive.Given as goal
 
-abbrev pub invariant-loop-turns : goal.invariant-loop-turns
-invariant-loop-turns g l = Good (length l.input) l.s × Ready l.points l.s.count l.indices l.boxes l.links l.s.fresh
-
-abbrev pub decreases-loop-turns : goal.decreases-loop-turns
-decreases-loop-turns g l = l.turns
+abbrev pub invariant-loop : goal.invariant-loop
+invariant-loop g l =
+    Turns (g.R.Read.remaining l.fn.reader) (g.R.Read.remaining l.reader) (g.W.Write.contents l.fn.writer) (g.W.Write.contents l.writer) l.fn.map.points l.fn.input l.map.points l.input

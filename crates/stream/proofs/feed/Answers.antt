@@ -1,120 +1,30 @@
 -- `stream::feed` meets its contract: a turn of the loop takes one record more. Assumes nothing.
-use mathlib.Core.Path.{refl, sym, ◌∙◌}
-use borrow.Author.Tests.{not-true, not-false}
-use Rattle.text.proofs.Laws.{kept}
-use Rattle.stream.proofs.Turns.{begun, same_size, full, hungry, turn, done, less}
-use native.Mathlib.Omega.{arith}
+use Rattle.std.proofs.Common.{refl, sym, ◌∙◌, arith, rules}
+use Rattle.stream.proofs.Turns.{begun, same_size, turn, done}
 use Rattle.stream.proofs.feed.Goals as goal
 
-pub loop-out-init : goal.loop-out-init
-loop-out-init c =
+pub loop-lines-init : goal.loop-lines-init
+loop-lines-init c =
     let a = c.args in
-    (begun a.input.now a.from a.points.now a.count a.out.now c.requires, refl, refl, refl, refl)
+    record { fine = rw (c.new-lines.ensures.out, c.new-lines.ensures.at) (begun a.input.now a.from a.map.now.points a.out.now); same_reference = refl }
 
-pub overflow_sub-out : goal.overflow_sub-out
-overflow_sub-out c =
+pub overflow_sub-lines : goal.overflow_sub-lines
+overflow_sub-lines c =
     let a = c.args in
-    let l = c.loop-out in
-    omega (arith, same_size a.input.now a.from a.points.now a.count a.out.now l.invariant.0, l.invariant.0.room)
+    let l = c.loop-lines in
+    omega (arith, same_size a.input.now a.from a.map.now.points a.out.now l.invariant.fine, l.invariant.fine.room)
 
-pub shape_of-points-in_default : goal.shape_of-points-in_default
-shape_of-points-in_default c = let a = c.args in let l = c.loop-out in l.invariant.1
-
-pub shape_of-indices-in_default : goal.shape_of-indices-in_default
-shape_of-indices-in_default c = let a = c.args in let l = c.loop-out in l.invariant.2
-
-pub shape_of-boxes-in_default : goal.shape_of-boxes-in_default
-shape_of-boxes-in_default c = let a = c.args in let l = c.loop-out in l.invariant.3
-
-pub shape_of-links-in_default : goal.shape_of-links-in_default
-shape_of-links-in_default c = let a = c.args in let l = c.loop-out in l.invariant.4
-
-pub shape_of-out-in_default : goal.shape_of-out-in_default
-shape_of-out-in_default c =
+pub returns-then-not-goes_on : goal.returns-then-not-goes_on
+returns-then-not-goes_on c =
     let a = c.args in
-    let l = c.loop-out in
-    same_size a.input.now a.from a.points.now a.count a.out.now l.invariant.0
+    let d = done a.input.now a.from a.map.now.points a.out.now c.loop-lines.invariant.fine c.loop-lines-test.true (sym c.read_at.ensures ∙ c.in-Whole.is) c.take-goes_on.ensures.stepped c.if-not-goes_on.true in
+    search rules
 
-pub returns-in_default : goal.returns-in_default
-returns-in_default c =
+pub loop-lines-preserved : goal.loop-lines-preserved
+loop-lines-preserved c =
     let a = c.args in
-    let l = c.loop-out in
-    hungry a.input.now a.from a.points.now a.count a.out.now l.invariant.0 c.loop-out-test.true _ c.read_at.ensures c.in_default.not-Whole
-
-pub take_one-s-requires : goal.take_one-s-requires
-take_one-s-requires c =
-    let a = c.args in
-    let l = c.loop-out in
-    (l.invariant.0.ready, omega (arith, same_size a.input.now a.from a.points.now a.count a.out.now l.invariant.0, l.invariant.0.room, c.loop-out-test.true))
-
-pub shape_of-points-then-not-s : goal.shape_of-points-then-not-s
-shape_of-points-then-not-s c =
-    let a = c.args in
-    let l = c.loop-out in
-    omega (arith, l.invariant.1)
-
-pub shape_of-indices-then-not-s : goal.shape_of-indices-then-not-s
-shape_of-indices-then-not-s c =
-    let a = c.args in
-    let l = c.loop-out in
-    omega (arith, l.invariant.2)
-
-pub shape_of-boxes-then-not-s : goal.shape_of-boxes-then-not-s
-shape_of-boxes-then-not-s c =
-    let a = c.args in
-    let l = c.loop-out in
-    omega (arith, l.invariant.3)
-
-pub shape_of-links-then-not-s : goal.shape_of-links-then-not-s
-shape_of-links-then-not-s c =
-    let a = c.args in
-    let l = c.loop-out in
-    omega (arith, l.invariant.4)
-
-pub shape_of-out-then-not-s : goal.shape_of-out-then-not-s
-shape_of-out-then-not-s c =
-    let a = c.args in
-    let l = c.loop-out in
-    kept c.take_one-s.ensures.replies.put ∙ same_size a.input.now a.from a.points.now a.count a.out.now l.invariant.0
-
-pub returns-then-not-s : goal.returns-then-not-s
-returns-then-not-s c =
-    let a = c.args in
-    let l = c.loop-out in
-    done a.input.now a.from a.points.now a.count a.out.now l.invariant.0 c.loop-out-test.true (sym c.read_at.ensures ∙ c.in-Whole.is) c.take_one-s.ensures (not-true _ c.if-not-s.true)
-
-pub loop-out-smaller : goal.loop-out-smaller
-loop-out-smaller c =
-    let a = c.args in
-    let l = c.loop-out in
-    less a.input.now a.from a.points.now a.count a.out.now l.invariant.0 c.loop-out-test.true (sym c.read_at.ensures ∙ c.in-Whole.is) c.take_one-s.ensures
-
-pub loop-out-preserved : goal.loop-out-preserved
-loop-out-preserved c =
-    let a = c.args in
-    let l = c.loop-out in
-    (turn a.input.now a.from a.points.now a.count a.out.now l.invariant.0 c.loop-out-test.true (sym c.read_at.ensures ∙ c.in-Whole.is) c.take_one-s.ensures (not-false _ c.if-not-s.false), omega (arith, l.invariant.1), omega (arith, l.invariant.2), omega (arith, l.invariant.3), omega (arith, l.invariant.4))
-
-pub shape_of-points : goal.shape_of-points
-shape_of-points c = let a = c.args in let l = c.loop-out in l.invariant.1
-
-pub shape_of-indices : goal.shape_of-indices
-shape_of-indices c = let a = c.args in let l = c.loop-out in l.invariant.2
-
-pub shape_of-boxes : goal.shape_of-boxes
-shape_of-boxes c = let a = c.args in let l = c.loop-out in l.invariant.3
-
-pub shape_of-links : goal.shape_of-links
-shape_of-links c = let a = c.args in let l = c.loop-out in l.invariant.4
-
-pub shape_of-out : goal.shape_of-out
-shape_of-out c =
-    let a = c.args in
-    let l = c.loop-out in
-    same_size a.input.now a.from a.points.now a.count a.out.now l.invariant.0
-
-pub returns : goal.returns
-returns c =
-    let a = c.args in
-    let l = c.loop-out in
-    full a.input.now a.from a.points.now a.count a.out.now l.invariant.0 c.loop-out-test.false
+    let l = c.loop-lines in
+    record {
+      fine = turn a.input.now a.from a.map.now.points a.out.now l.invariant.fine c.loop-lines-test.true (sym c.read_at.ensures ∙ c.in-Whole.is) c.take-goes_on.ensures.stepped c.if-not-goes_on.false;
+      same_reference = c.take-goes_on.ensures.same_reference ∙ l.invariant.same_reference;
+    }

@@ -1,14 +1,14 @@
 -- `stream::feed` meets its contract: a turn of the loop takes one record more. Assumes nothing.
-use mathlib.Core.Path.{◌≡◌}
-use Prim.Native.Nat.{◌-◌}
-use lib.ListN.{length}
+use Rattle.std.proofs.Common.{◌≡◌, ◌-◌, length}
 use Rattle.stream.proofs.Turns.{Fine}
 use Rattle.stream.proofs.feed.Given as goal
 
-abbrev pub invariant-loop-out : goal.invariant-loop-out
-invariant-loop-out l =
-    Fine l.input l.from l.initial.points l.count l.initial.out l.points l.indices l.boxes l.links l.out l.at l.n l.w l.up × (length l.points ≡ length l.initial.points) × (length l.indices ≡ length l.initial.indices) × (length l.boxes ≡ length l.initial.boxes) × (length l.links ≡ length l.initial.links)
+abbrev pub invariant-loop-lines : goal.invariant-loop-lines
+invariant-loop-lines l =
+    record {
+      fine : Fine l.input l.from l.fn.map.points l.fn.out l.map.points l.lines.out.now l.used l.lines.at;
+      same_reference : l.lines.out.ghost_name ≡ l.initial.lines.out.ghost_name;
+    }
 
-abbrev pub decreases-loop-out : goal.decreases-loop-out
-decreases-loop-out l =
-    length l.input - l.at
+abbrev pub decreases-loop-lines : goal.decreases-loop-lines
+decreases-loop-lines l = length l.input - l.used

@@ -1,32 +1,31 @@
--- `stream::print_all` meets its contract: short slices are refused, others are fed from no points on. Assumes nothing.
-use Rattle.stream.proofs.Started.{started}
-use Rattle.stream.proofs.Printing.{roomy, filled-full, filled-done, filled-over, cut-room, filled-cut}
+-- `stream::print_all` meets its contract: slices that are not short are fed from no points on. Assumes nothing.
+use Rattle.std.proofs.Common.{List, subst, rules}
+use lib.Ieee.{Float}
+use Rattle.stream.specs.Feeding.{FedBy}
+use Rattle.stream.proofs.Printing.{roomy, filled-full, filled-done, filled-over, filled-cut}
 use Rattle.stream.proofs.print_all.Goals as goal
-
-pub feed-f-requires : goal.feed-f-requires
-feed-f-requires c = started _ _ _ _ c.if-points-lt2048.false c.if-indices-lt1024.false c.if-boxes-lt12288.false c.if-links-lt8192.false
-
-pub put_count-requires : goal.put_count-requires
-put_count-requires c =
-    let a = c.args in
-    cut-room a.input.now a.points.now a.out.now _ c.feed-f.ensures c.in-Hungry.is
-
-pub returns-then-used-input : goal.returns-then-used-input
-returns-then-used-input c =
-    let a = c.args in
-    filled-cut a.input.now a.points.now a.out.now _ c.feed-f.ensures (roomy c.if-points-lt2048.false c.if-indices-lt1024.false c.if-boxes-lt12288.false c.if-links-lt8192.false) c.in-Hungry.is c.if-used-input.true c.put_count.ensures
 
 pub returns-in-Full : goal.returns-in-Full
 returns-in-Full c =
     let a = c.args in
-    filled-full a.input.now a.points.now a.out.now _ c.feed-f.ensures (roomy c.if-points-lt2048.false c.if-indices-lt1024.false c.if-boxes-lt12288.false c.if-links-lt8192.false) c.in-Full.is
+    let F = subst (λ (p : List Float). FedBy a.input.now 0 p a.out.now c.feed-fed.new.map.points c.feed-fed.new.out c.feed-fed.result) c.new-map.ensures.none c.feed-fed.ensures in
+    filled-full a.input.now a.out.now _ F (roomy c.if-points-lt-COORDINATES.false c.if-indices-lt-MAX_POINTS.false c.if-boxes-lt-BOXES.false c.if-links-lt-LINKS.false) c.in-Full.is
 
 pub returns-in-Done : goal.returns-in-Done
 returns-in-Done c =
     let a = c.args in
-    filled-done a.input.now a.points.now a.out.now _ c.feed-f.ensures (roomy c.if-points-lt2048.false c.if-indices-lt1024.false c.if-boxes-lt12288.false c.if-links-lt8192.false) c.in-Done.is
+    let F = subst (λ (p : List Float). FedBy a.input.now 0 p a.out.now c.feed-fed.new.map.points c.feed-fed.new.out c.feed-fed.result) c.new-map.ensures.none c.feed-fed.ensures in
+    filled-done a.input.now a.out.now _ F (roomy c.if-points-lt-COORDINATES.false c.if-indices-lt-MAX_POINTS.false c.if-boxes-lt-BOXES.false c.if-links-lt-LINKS.false) c.in-Done.is
 
-pub returns-else-used-input : goal.returns-else-used-input
-returns-else-used-input c =
+pub returns-else-fed-input : goal.returns-else-fed-input
+returns-else-fed-input c =
     let a = c.args in
-    filled-over a.input.now a.points.now a.out.now _ c.feed-f.ensures (roomy c.if-points-lt2048.false c.if-indices-lt1024.false c.if-boxes-lt12288.false c.if-links-lt8192.false) c.in-Hungry.is c.if-used-input.false
+    let F = subst (λ (p : List Float). FedBy a.input.now 0 p a.out.now c.feed-fed.new.map.points c.feed-fed.new.out c.feed-fed.result) c.new-map.ensures.none c.feed-fed.ensures in
+    filled-over a.input.now a.out.now _ F (roomy c.if-points-lt-COORDINATES.false c.if-indices-lt-MAX_POINTS.false c.if-boxes-lt-BOXES.false c.if-links-lt-LINKS.false) c.in-Hungry.is c.if-fed-input.false
+
+pub returns-then-fed-input : goal.returns-then-fed-input
+returns-then-fed-input c =
+    let a = c.args in
+    let F = subst (λ (p : List Float). FedBy a.input.now 0 p a.out.now c.feed-fed.new.map.points c.feed-fed.new.out c.feed-fed.result) c.new-map.ensures.none c.feed-fed.ensures in
+    let d = filled-cut a.input.now a.out.now _ F (roomy c.if-points-lt-COORDINATES.false c.if-indices-lt-MAX_POINTS.false c.if-boxes-lt-BOXES.false c.if-links-lt-LINKS.false) c.in-Hungry.is c.if-fed-input.true {out'' = c.put_error.new.lines.out.now} {w = c.put_error.new.lines.at} (rw (← c.new-lines.ensures.out, ← c.new-lines.ensures.at) c.put_error.ensures.put) in
+    search rules
