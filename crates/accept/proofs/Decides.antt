@@ -1,6 +1,6 @@
 -- The check decides: any two answers to one tree are equal, and the answer is `Ok` exactly where the tree is accepted. Two things
 -- that are due to one tree are the same, since each says which of the tests is the first to fail. Assumes nothing.
-use mathlib.Core.Path.{◌≡◌, refl, sym, ap, ◌∙◌, subst}
+use mathlib.Core.Path.{◌≡◌, refl, sym, ap, ◌∙◌}
 use mathlib.Core.List.{List, [], ◌∷◌}
 use mathlib.Core.Bool.{Bool, true, false}
 use Prim.Native.Nat.{ℕ, ◌<◌}
@@ -11,7 +11,7 @@ use lib.ListN.{get_or}
 use Rattle.std.specs.Prelude.{◌↔◌, Result, Ok, Err, IsOk}
 use Rattle.refusal.specs.declared.Refusal.{Refusal}
 use Rattle.refusal.specs.declared.Refusal.TheVariants.{OddCoordinates, TooManyPoints, PointNotFinite, PlaceNotFinite, RadiusNotValid, IndicesTooShort, NodesTooShort, NoRoom, DamagedTree, UnknownRecord}
-use Rattle.refusal.specs.Numbers.{Told, number, detail, given, refused, done}
+use Rattle.refusal.specs.Numbers.{Told, number, detail, refused, done}
 use Rattle.tree.specs.Points.{size, AllFinite, FirstBad}
 use Rattle.tree.specs.Accepted.{Tree, Accepted}
 use Rattle.tree.proofs.NotFinite.{first_bad_not, first_bad_unique, finite_at_of_all}

@@ -1,8 +1,8 @@
 -- The answer of the check, way by way, in the order of its tests. Assumes nothing.
 use mathlib.Core.Path.{◌≡◌, refl}
-use mathlib.Core.Logic.{◌⊎◌, inl, inr}
-use Prim.Native.Nat.{ℕ, ◌≤◌, ◌<◌}
-use lib.ListN.{length, get_or, take}
+use mathlib.Core.Logic.{◌⊎◌}
+use Prim.Native.Nat.{◌≤◌}
+use lib.ListN.{length, take}
 use Rattle.std.specs.Prelude.{◌↔◌, Result, Ok, Err, IsOk}
 use Rattle.std.proofs.lemmas.List.{get_or-take, length-take-le}
 use Rattle.refusal.specs.declared.Refusal.{Refusal}
@@ -11,7 +11,7 @@ use Rattle.tree.specs.Points.{Usable, Checks, usable}
 use Rattle.tree.specs.Points as points
 use Rattle.tree.specs.Accepted.{Tree, count, Sound, Grown, Accepted}
 use Rattle.accept.specs.Answer.{sound, odd, many, not_finite, not_accepted, Answers}
-use Rattle.accept.specs.Inner.{Ready, EachOnce}
+use Rattle.accept.specs.Inner.{EachOnce}
 use Rattle.accept.proofs.Decides.{ok-accepted}
 
 -- both clauses of the check
@@ -54,21 +54,10 @@ module _ (t : Tree) (room : count t ≤ length t.indices) where
   front : length (take (count t) t.indices) ≡ count t
   front = length-take-le (count t) t.indices room
 
-  entry : (k : ℕ) → k < count t → get_or (take (count t) t.indices) k 0 ≡ get_or t.indices k 0
-  entry k h = get_or-take (count t) t.indices k 0 h
-
-  pub grown-once : Grown t → EachOnce (take (count t) t.indices)
-  grown-once g = record {
-    below = λ k h. rw (entry k (rw front at h), front) (g.below k (rw front at h));
-    once = λ i h. g.once i (rw front at h);
+  pub once-grown : EachOnce (take (count t) t.indices) → Sound t 0 0 (count t) → Grown t
+  once-grown O s = record {
+    room = room;
+    below = λ k h. rw (get_or-take (count t) t.indices k 0 h, front) at (O.below k (rw front h));
+    once = λ i h. O.once i (rw front h);
+    root = s;
   }
-
-  module _ (O : EachOnce (take (count t) t.indices)) where
-    below : (k : ℕ) → k < count t → get_or t.indices k 0 < count t
-    below k h = rw (entry k h, front) at (O.below k (rw front h))
-
-    pub ready : Usable t.points → Ready t
-    ready u = record { room = room; below = below; all_finite = u.all_finite }
-
-    pub once-grown : Sound t 0 0 (count t) → Grown t
-    once-grown s = record { room = room; below = below; once = λ i h. O.once i (rw front h); root = s }

@@ -1,6 +1,6 @@
 -- What the check finds at a node, way by way: nothing where the node is damaged or a half is; else the tight box where the node's box
 -- holds it. By the two forms of a sound node. Assumes nothing.
-use mathlib.Core.Path.{◌≡◌, refl, sym, ap, subst}
+use mathlib.Core.Path.{◌≡◌, refl, subst}
 use mathlib.Core.Bool.{Bool, true, false, cond}
 use Prim.Native.Nat.{ℕ, ◌≤◌}
 use native.Mathlib.Omega.{arith}
@@ -67,7 +67,7 @@ module _ (t : Tree) (n : Node) where
     found-branch O E s u d e L R =
         let M = rw d at L in
         let N = rw e at R in
-        found-inside (joined s u) (tight_join t O n.start (mid n.start n.end) n.end s u (omega (arith, N.tight.low_x.from, N.tight.low_x.to)) E M.tight N.tight) (λ b. branch l r b k (M.sound.0 refl) (N.sound.0 refl))
+        found-inside (joined s u) (tight_join t O n.start (mid n.start n.end) n.end s u (omega (arith, N.tight.on_x.low.from, N.tight.on_x.low.to)) E M.tight N.tight) (λ b. branch l r b k (M.sound.0 refl) (N.sound.0 refl))
 
 -- a node that is no damage and no branch is a leaf
 pub kind-leaf : (k : Kind) → (k ≡ Damaged → ⊥) → ((x y : ℕ) → k ≡ Branch x y → ⊥) → k ≡ Leaf

@@ -1,5 +1,5 @@
-// Builds recorded maps and prints their trees. Standard input has the maps and the expected output was worked out by
-// oracle/build_maps.py, from the rules and not from this project's code.
+//! Builds recorded maps and prints their trees. Standard input has the maps and the expected output was worked out by
+//! oracle/build_maps.py, from the rules and not from this project's code.
 #![tactic(auto)]
 
 mod maps;
@@ -14,13 +14,12 @@ fn main(rt: HostRuntime) -> std::io::Result<()> {
     let mut indices = [0u32; 512];
     let mut boxes = [0.0; 1536];
     let mut links = [0u32; 1024];
-    let _ = maps::print_all(
+    maps::print_all(
         &rt,
         &text[..n],
         &mut points,
         &mut indices,
         &mut boxes,
         &mut links,
-    )?;
-    Ok(())
+    )
 }

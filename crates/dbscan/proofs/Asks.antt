@@ -4,6 +4,7 @@
 use mathlib.Core.Path.{◌≡◌, refl, sym, ap, ◌∙◌, subst}
 use mathlib.Core.Bool.{Bool, true, false, cond}
 use mathlib.Core.List.{List, [], ◌∷◌, ◌++◌, append-nil}
+use Rattle.std.proofs.Common.{Result, Ok, Err}
 use Prim.Native.Nat.{ℕ, zero, suc, ◌+◌, ◌*◌, ◌%◌}
 use native.Mathlib.Omega.{arith}
 use lib.Dec.{T, ltb}
@@ -14,7 +15,8 @@ use lib.Ieee.Scale.{finite}
 use borrow.Author.Tests.{ne_eqb, le-ltb}
 use Rattle.tree.specs.Points.{limit, x, y}
 use Rattle.tree.specs.Accepted.{Tree, count, Accepted}
-use Rattle.search.specs.Refusal.{refusal}
+use Rattle.search.specs.Refusal.{Told, told, refusal}
+use Rattle.refusal.proofs.Same.{number-nonzero}
 use Rattle.search.specs.Order.{at}
 use Rattle.refusal.specs.declared.Refusal.{Refusal}
 use Rattle.radius.specs.Within.{Reply, finds, reply, Answered}
@@ -31,6 +33,13 @@ picked-hits p (suc k) = go (p k) (picked-hits p k)
     go : (b : Bool) → picked p k ≡ hits p k → cond b (picked p k ++ (k ∷ [])) (picked p k) ≡ hits p k ++ cond b (k ∷ []) []
     go true e = ap (λ (l : List ℕ). l ++ (k ∷ [])) e
     go false e = e ∙ sym (append-nil (hits p k))
+
+abbrev hits-told : ℕ → ℕ → Told
+hits-told n m = record { number = n; detail = m }
+
+told-hits : (r : Result ℕ Refusal) (m : ℕ) → told r ≡ hits-told 0 m → r ≡ Ok m
+told-hits (Ok n) m h = ap (λ (a : Told). Ok a.detail) h
+told-hits (Err w) m h = absurd (number-nonzero w (ap (λ (a : Told). a.number) h))
 
 is_true : (b : Bool) → T b → b ≡ true
 is_true true h = refl
@@ -67,7 +76,7 @@ module _ (t : Tree) (epsilon : Float) (i : ℕ) (out₀ : List ℕ) (A : Asked t
     fits = le-ltb (length out₀) (length l) (omega (arith, A.room, hits-length (near t.points epsilon i) (count t)))
 
     pub asked-hits : r ≡ Ok (length l)
-    asked-hits = W'.hits_if_zero (ap (λ (b : Bool). cond b 8 0) fits)
+    asked-hits = told-hits r (length l) (W'.told_is ∙ ap (λ (b : Bool). hits-told (cond b 8 0) (length l)) fits)
 
     pub asked-filled : (n : ℕ) → r ≡ Ok n → Filled (near t.points epsilon) (count t) i n out
     asked-filled n e =

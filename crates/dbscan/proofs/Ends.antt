@@ -4,7 +4,7 @@ use mathlib.Core.Path.{◌≡◌, refl, sym, ap, ◌∙◌, subst}
 use mathlib.Core.Logic.{◌⊎◌, inl, inr}
 use mathlib.Core.Bool.{Bool, true, false, ◌||◌}
 use mathlib.Core.List.{List, ◌++◌}
-use Rattle.std.proofs.Common.{Result, Ok, Err}
+use Rattle.std.proofs.Common.{Err}
 use Prim.Native.Nat.{ℕ, zero, suc, ◌*◌, ◌/◌, ◌≤◌, ◌<◌}
 use native.Mathlib.Omega.{arith}
 use lib.Dec.{eqb, ltb}
@@ -48,7 +48,6 @@ module _ (epsilon : Float) (m : ℕ) (t₀ : Tree) (l₀ w₀ : List ℕ) where
   ends-refused w d = record { due = d; answers = λ h. absurd (true_false (sym h)); kept = λ h. refl }
 
   module _ (due : Dues labelled) where
-
     pub ready : Ready t₀.points epsilon (length t₀.indices) (length t₀.boxes) (length t₀.links) (length l₀) (length w₀)
     ready = due-ready t₀.points epsilon (length t₀.indices) (length t₀.boxes) (length t₀.links) (length l₀) (length w₀) due
 

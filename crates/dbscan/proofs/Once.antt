@@ -17,7 +17,6 @@ use Rattle.labels.specs.Labels.{noise, near, Labelled}
 use Rattle.labels.proofs.Unique.{labels_unique, labels-none}
 use Rattle.build.specs.Outcome as build
 use Rattle.build.specs.Agree.{Held, Agree}
-use Rattle.build.proofs.Outcomes.{true_false}
 use Rattle.build.proofs.Once as built
 use Rattle.build.proofs.Unique.{built_agree}
 use Rattle.refusal.specs.Numbers.{Told}

@@ -29,9 +29,10 @@ fn neighbours(tree: &Tree, epsilon: f64, i: usize, out: &mut [u32]) -> usize
     requires { Asked tree.now epsilon i out.old }
     ensures { Filled (near tree.now.points epsilon) (count tree.now) i result out.new }
 {
+    let points = tree.points();
     let place = Coord {
-        x: tree.points()[2 * i],
-        y: tree.points()[2 * i + 1],
+        x: points[2 * i],
+        y: points[2 * i + 1],
     };
     let Ok(count) = radius::within_radius_indices(tree, place, epsilon, out) else {
         return 0;
@@ -102,17 +103,17 @@ fn expand(
     tree: &Tree,
     density: Density,
     cluster: Cluster,
-    count: usize,
+    around: usize,
     labels: &mut [u32],
     work: &mut [u32],
 )
-    requires { Startable tree.now density.epsilon density.min_samples cluster.seed cluster.label count work.old labels.old }
+    requires { Startable tree.now density.epsilon density.min_samples cluster.seed cluster.label around work.old labels.old }
     ensures { Between (near tree.now.points density.epsilon) (count tree.now) density.min_samples (cluster.seed + 1) (cluster.label + 1) work.new labels.new }
 {
     let n = tree.len();
     labels[cluster.seed] = cluster.label;
     work[n] = cluster.seed as u32;
-    let mut tail = claim_all(count, cluster, n + 1, labels, work);
+    let mut tail = claim_all(around, cluster, n + 1, labels, work);
     let mut head = n + 1;
     // Kept: the queue grows while it is read, so that no range is known before.
     while head < tail {

@@ -7,18 +7,19 @@ use Prim.Native.Nat.{ℕ, min}
 use lib.Ieee.{Float}
 use lib.ListN.{length}
 use Rattle.distance.specs.declared.Coord.{Coord}
-use Rattle.search.specs.declared.Found.{Found}
+use Rattle.std.proofs.Common.{Result}
+use Rattle.refusal.specs.declared.Refusal.{Refusal}
 use Rattle.search.proofs.Written.{Held}
 use Rattle.radius.specs.Within.{Reply}
 use Rattle.radius.proofs.Unique.{SameAll, in_room_unique}
 use Rattle.hits.specs.declared.Hit.{Hit}
 use Rattle.hits.specs.Records.{recorded, InRecords}
 
-pub record SameRecords (r s : Found) (is js : List ℕ) (ds es : List Float) (hs ks : List Hit) : Type 0 where
+pub record SameRecords (r s : Result ℕ Refusal) (is js : List ℕ) (ds es : List Float) (hs ks : List Hit) : Type 0 where
   pub same_slices : SameAll r s is js ds es
   pub same_hits : hs ≡ ks
 
-pub in_records_unique : (points : List Float) (q : Coord) (a : Reply) (is₀ : List ℕ) (ds₀ : List Float) (hs₀ : List Hit) (r s : Found) (is js : List ℕ) (ds es : List Float) (hs ks : List Hit) → Held ds → Held es
+pub in_records_unique : (points : List Float) (q : Coord) (a : Reply) (is₀ : List ℕ) (ds₀ : List Float) (hs₀ : List Hit) (r s : Result ℕ Refusal) (is js : List ℕ) (ds es : List Float) (hs ks : List Hit) → Held ds → Held es
     → InRecords points q a is₀ ds₀ hs₀ r is ds hs → InRecords points q a is₀ ds₀ hs₀ s js es ks → SameRecords r s is js ds es hs ks
 in_records_unique points q a is₀ ds₀ hs₀ r s is js ds es hs ks f g A B =
     let same = in_room_unique points q a (min (length hs₀) (min (length is₀) (length ds₀))) is₀ ds₀ r s is js ds es f g A.in_room B.in_room in
@@ -26,7 +27,7 @@ in_records_unique points q a is₀ ds₀ hs₀ r s is js ds es hs ks f g A B =
       same_slices = same;
       same_hits =
           A.hits_are
-          ∙ ap (λ (x : Found). recorded x is ds hs₀) same.same_front.same_answer
+          ∙ ap (λ (x : Result ℕ Refusal). recorded x is ds hs₀) same.same_front.same_answer
           ∙ ap (λ (l : List ℕ). recorded s l ds hs₀) same.same_front.same_indices
           ∙ ap (λ (l : List Float). recorded s js l hs₀) same.same_distances
           ∙ sym B.hits_are;

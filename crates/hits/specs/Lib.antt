@@ -1,3 +1,2 @@
--- What the contracts of the thin entry cite: Records for its users, Filling for its inner functions.
+-- What the contracts of the thin entry cite.
 pub mod Records
-pub mod Filling

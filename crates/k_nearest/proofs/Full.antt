@@ -16,7 +16,7 @@ use Rattle.tree.specs.Node.{bounds, kind, mid, part}
 use Rattle.tree.specs.Accepted.{Tree, count}
 use Rattle.tree.specs.declared.Kind.{Kind}
 use Rattle.tree.specs.declared.Kind.TheVariants.{Leaf, Branch, Damaged}
-use Rattle.search.specs.Walk.{Search, Walk, damage, done, more, and_then, scan, visit, walk}
+use Rattle.search.specs.Walk.{Search, Walk, damage, done, more, and_then, scan, visit, walk, walk_all, got, outcome}
 use Rattle.search.specs.Order.{before, point}
 use Rattle.search.specs.declared.Best.{Best}
 use Rattle.search.proofs.Own.{After}
@@ -117,3 +117,18 @@ module _ (t : Tree) (q : Coord) (k : ℕ) (o : 0 < k) (room : count t ≤ length
           pick : (b : Bool) → After (Holds k (length s) (e - a)) (two b)
           pick true = subst (λ (c : ℕ). After (Holds k (length s) c) (two true)) (sum a e h) (holds_then k (length s) (mid a e - a) (e - mid a e) (walk t Q d l a (mid a e) s) (walk t Q d r (mid a e) e) (left s f) right)
           pick false = subst (λ (c : ℕ). After (Holds k (length s) c) (two false)) (other a e h) (holds_then k (length s) (e - mid a e) (mid a e - a) (walk t Q d r (mid a e) e s) (walk t Q d l a (mid a e)) (right s f) left)
+
+pub walk-full : (t : Tree) (q : Coord) (k : ℕ) → 0 < k → k ≤ count t → After (λ z. length z ≡ k) (walk_all t (holding k t.points q) [])
+walk-full t q k o h = go (ltb (length t.indices) (count t)) refl
+  where
+    all : (w : Walk (List Best)) → After (λ z. length z ≡ min k (0 + (count t - 0))) w → After (λ z. length z ≡ k) w
+    all damage x = tt
+    all (done z n d) x = omega arith
+
+    go : (b : Bool) → ltb (length t.indices) (count t) ≡ b → After (λ z. length z ≡ k) (cond b damage (walk t (holding k t.points q) (count t) 0 0 (count t) []))
+    go true e = tt
+    go false e = all (walk t (holding k t.points q) (count t) 0 0 (count t) []) (walk-holds t q k o (ltb-false (length t.indices) (count t) e) (count t) 0 0 (count t) (omega arith) (omega arith) [] (omega arith))
+
+pub after-got : (P : List Best → Type 0) (w : Walk (List Best)) (s : List Best) → After P w → outcome w ≡ got s → P s
+after-got P damage s h e = let z : ◌≡◌ {A = ℕ} 0 1 = cc in absurd (omega arith)
+after-got P (done z n d) s h e = let g : z ≡ s = cc in subst P g h

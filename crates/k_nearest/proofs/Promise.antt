@@ -10,7 +10,7 @@ use mathlib.Core.Path.{◌≡◌, refl, sym, ap, ◌∙◌, subst}
 use mathlib.Core.Logic.{◌⊎◌, inl, inr}
 use mathlib.Core.List.{List, [], ◌∷◌}
 use mathlib.Core.Bool.{Bool, true, false, ◌&&◌, cond}
-use Prim.Native.Nat.{ℕ, zero, suc, ◌+◌, ◌-◌, ◌%◌, ◌≤◌, ◌<◌, min}
+use Prim.Native.Nat.{ℕ, zero, suc, ◌%◌, ◌≤◌, ◌<◌, min}
 use native.Mathlib.Omega.{arith}
 use lib.Dec.{T, eqb, ltb}
 use lib.ListN.{length, length-take}
@@ -28,7 +28,8 @@ use Rattle.search.specs.Order.{point, before}
 use Rattle.search.specs.Refusal.{refusal, told}
 use Rattle.search.specs.Answer.{Answer, refused, hits, telling, Answers}
 use Rattle.search.specs.declared.Best.{Best}
-use Rattle.search.specs.declared.Found.{Found}
+use Rattle.std.proofs.Common.{Result}
+use Rattle.refusal.specs.declared.Refusal.{Refusal}
 use Rattle.search.proofs.Whole.{Fair, Ends, walk-is-plain}
 use Rattle.search.proofs.Own.{After, walk_after}
 use Rattle.tree.proofs.Each.{Each}
@@ -38,7 +39,7 @@ use Rattle.heap.specs.Heap.{blank}
 use Rattle.heap.proofs.Each.{offer-each, heap_sort-each, heap_sort-size}
 use Rattle.k_nearest.specs.Scan.{insert, keep, nearest_k}
 use Rattle.k_nearest.specs.Query.{wanted, over_top, holding, probing, sorted, found, no_room, answer, scan_answer}
-use Rattle.k_nearest.proofs.Full.{walk-holds}
+use Rattle.k_nearest.proofs.Full.{walk-full, after-got}
 use Rattle.k_nearest.proofs.Tied.{tied_sorted, Ended, knn_ends}
 
 -- ---- the scan keeps as many as there are, and k at most
@@ -120,7 +121,7 @@ k_nearest_is-scan t q k room A = go (ltb 0 (refusal t.points q)) refl (eqb (want
         ended_found (wanted k t) (nearest_k (wanted k t) t.points q) (walk_all t (holding (wanted k t) t.points q) []) (some f) (knn_ends (wanted k t) t q A (grown (some f)) F.1 F.2 (some f))
         ∙ ap hits (nearest_k-min t.points q k)
 
-pub nine_unaccepted : (t : Tree) (q : Coord) (k room : ℕ) (is₀ is : List ℕ) (ds₀ ds : List Float) (r : Found) → Answers (answer t q k room) is₀ ds₀ r is ds → (told r).number ≡ 9 → Accepted t → ⊥
+pub nine_unaccepted : (t : Tree) (q : Coord) (k room : ℕ) (is₀ is : List ℕ) (ds₀ ds : List Float) (r : Result ℕ Refusal) → Answers (answer t q k room) is₀ ds₀ r is ds → (told r).number ≡ 9 → Accepted t → ⊥
 nine_unaccepted t q k room is₀ is ds₀ ds r h e A =
     go (eqb (length t.points % 2) 1) (ltb limit (count t)) (finite q.x && finite q.y) (eqb (wanted k t) 0) (ltb room (wanted k t))
     (ap (λ (a : Answer). (telling a).number) (sym (k_nearest_is-scan t q k room A)) ∙ sym (ap (λ z. z.number) h.tells) ∙ e)
@@ -160,21 +161,6 @@ walk-own t q k o some = go (ltb (length t.indices) (count t)) refl
     go true e = tt
     go false e = walk_after t (holding k t.points q) (λ s. s ≡ []) (Each (Own t q)) step step opens (ltb-false (length t.indices) (count t) e) (count t) 0 0 (count t) some (omega arith) [] (inl refl)
 
-walk-full : (t : Tree) (q : Coord) (k : ℕ) → 0 < k → k ≤ count t → After (λ z. length z ≡ k) (walk_all t (holding k t.points q) [])
-walk-full t q k o h = go (ltb (length t.indices) (count t)) refl
-  where
-    all : (w : Walk (List Best)) → After (λ z. length z ≡ min k (0 + (count t - 0))) w → After (λ z. length z ≡ k) w
-    all damage x = tt
-    all (done z n d) x = omega arith
-
-    go : (b : Bool) → ltb (length t.indices) (count t) ≡ b → After (λ z. length z ≡ k) (cond b damage (walk t (holding k t.points q) (count t) 0 0 (count t) []))
-    go true e = tt
-    go false e = all (walk t (holding k t.points q) (count t) 0 0 (count t) []) (walk-holds t q k o (ltb-false (length t.indices) (count t) e) (count t) 0 0 (count t) (omega arith) (omega arith) [] (omega arith))
-
-after-got : (P : List Best → Type 0) (w : Walk (List Best)) (s : List Best) → After P w → outcome w ≡ got s → P s
-after-got P damage s h e = let z : ◌≡◌ {A = ℕ} 0 1 = cc in absurd (omega arith)
-after-got P (done z n d) s h e = let g : z ≡ s = cc in subst P g h
-
 -- hits are none where none are wanted, or come from the walk's end
 module _ (t : Tree) (q : Coord) (k room : ℕ) (l : List Best) (h : answer t q k room ≡ hits l) where
   of_hits : (P : List Best → Type 0) → (wanted k t ≡ 0 → P []) → (0 < wanted k t → (s : List Best) → outcome (walk_all t (holding (wanted k t) t.points q) []) ≡ got s → P (sorted s)) → P l
@@ -206,6 +192,6 @@ module _ (t : Tree) (q : Coord) (k room : ℕ) (l : List Best) (h : answer t q k
       (λ o s e. heap_sort-size before blank (length s) s ∙ after-got (λ z. length z ≡ wanted k t) (walk_all t (holding (wanted k t) t.points q) []) s (walk-full t q (wanted k t) o (omega arith)) e)
 
 -- ---- one outcome
-pub outcomes_unique : (t : Tree) (q : Coord) (k room : ℕ) (is₀ is js : List ℕ) (ds₀ ds es : List Float) (r s : Found)
+pub outcomes_unique : (t : Tree) (q : Coord) (k room : ℕ) (is₀ is js : List ℕ) (ds₀ ds es : List Float) (r s : Result ℕ Refusal)
     → Answers (answer t q k room) is₀ ds₀ r is ds → Answers (answer t q k room) is₀ ds₀ s js es → Held ds → Held es → (r ≡ s) × (is ≡ js) × (ds ≡ es)
 outcomes_unique t q k room is₀ is js ds₀ ds es r s A B f g = answers_unique A B f g

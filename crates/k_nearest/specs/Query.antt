@@ -1,29 +1,27 @@
 -- The k-nearest query: its walk, and what it answers for every input whatsoever.
---   place x y           where the query stands
 --   wanted k t          how many hits there are to be, and the most that are held: min(k, n). Once n are held, all are met
 --   over held k top d   of so many held, k are, and d is above top
 --   over_top k s d      the heap s is full, and d is above its first, the last of the k held
---   holding k points q  the query whose state is a heap of at most k points
---   probing             the query that holds nothing, for want of room, and so passes over nothing
+--   nearest_held k      of a query whose state is a heap of at most k points
+--   none_held           of a query that holds nothing, and so passes over nothing
+--   holding k points q  the query that finds the k nearest
+--   probing             the query that meets damage, for want of room
 --   sorted s            what is held, by (d2, index)
 --   answer t q k room   what the query answers, with room for so many hits
 --   scan_answer points q k room  the same by a plain scan, with no tree
 use Rattle.std.specs.Prelude.{List, [], Bool, true, false, cond, ℕ, min, ltb, eqb, length, get_or, Float}
 use Rattle.std.specs.Float.Ieee.{lt}
-use Rattle.distance.specs.Distance.{bound}
 use Rattle.distance.specs.declared.Coord.{Coord}
 use Rattle.tree.specs.Points.{size}
 use Rattle.tree.specs.Accepted.{Tree, count}
-use Rattle.search.specs.Order.{point, before, left_nearer}
+use Rattle.search.specs.Order.{before}
+use Rattle.search.specs.Rules.{Rules, searching}
 use Rattle.search.specs.Walk.{Search, Got, broken, got, outcome, walk_all}
 use Rattle.search.specs.Refusal.{refusal}
 use Rattle.search.specs.Answer.{Answer, refused, damaged, hits}
 use Rattle.search.specs.declared.Best.{Best}
 use Rattle.heap.specs.Heap.{heap_sort, offer, blank}
 use Rattle.k_nearest.specs.Scan.{nearest_k}
-
-abbrev pub place : Float → Float → Coord
-place x y = record { x = x; y = y }
 
 abbrev pub wanted : ℕ → Tree → ℕ
 wanted k t = min k (count t)
@@ -34,14 +32,20 @@ over held k top d = cond (ltb held k) false (lt top d)
 abbrev pub over_top : ℕ → List Best → Float → Bool
 over_top k s d = over (length s) k (get_or s 0 blank).d2 d
 
-abbrev pub holding : ℕ → List Float → Coord → Search (List Best)
-holding k points q = record {
-  skip = λ s b. over_top k s (bound q b);
-  left_first = left_nearer q;
-  next = λ s i. offer before blank k s (point points q i);
-  whole = λ b. false;
-  add = λ s i. offer before blank k s (point points q i);
+abbrev pub nearest_held : ℕ → Rules (List Best)
+nearest_held k = record {
+  nearer_first = true;
+  skip = over_top k;
+  next = offer before blank k;
+  whole = λ d. false;
+  add = offer before blank k;
 }
+
+abbrev pub none_held : Rules Unit
+none_held = record { nearer_first = false; skip = λ s d. false; next = λ s p. s; whole = λ d. false; add = λ s p. s }
+
+abbrev pub holding : ℕ → List Float → Coord → Search (List Best)
+holding k points q = searching (nearest_held k) points q
 
 abbrev pub probing : Search Unit
 probing = record { skip = λ s b. false; left_first = λ l r. true; next = λ s i. s; whole = λ b. false; add = λ s i. s }

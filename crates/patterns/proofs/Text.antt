@@ -20,23 +20,23 @@ from_on : (c n : ℕ) → n ≤ c → ltb c n ≡ false
 from_on c n h = is_false (ltb c n) (not_T (ltb c n) (λ (t : T (ltb c n)). not-le_of_lt (ltb→lt c n t) h))
 
 -- ---- the digit, by where the byte lies
-pub digit_low : (c : ℕ) → c < 48 → digit c ≡ 0
+digit_low : (c : ℕ) → c < 48 → digit c ≡ 0
 unfolding digit
 digit_low c h = rw (below c 48 h)
 
-pub digit-number : (c : ℕ) → 48 ≤ c → c < 58 → digit c ≡ c - 48
+digit-number : (c : ℕ) → 48 ≤ c → c < 58 → digit c ≡ c - 48
 unfolding digit
 digit-number c h k = rw (from_on c 48 h, below c 58 k)
 
-pub digit-between : (c : ℕ) → 58 ≤ c → c < 65 → digit c ≡ 0
+digit-between : (c : ℕ) → 58 ≤ c → c < 65 → digit c ≡ 0
 unfolding digit
 digit-between c h k = rw (from_on c 48 (omega arith), from_on c 58 h, below c 65 k)
 
-pub digit_letter : (c : ℕ) → 65 ≤ c → c < 71 → digit c ≡ c - 55
+digit_letter : (c : ℕ) → 65 ≤ c → c < 71 → digit c ≡ c - 55
 unfolding digit
 digit_letter c h k = rw (from_on c 48 (omega arith), from_on c 58 (omega arith), from_on c 65 h, below c 71 k)
 
-pub digit-high : (c : ℕ) → 71 ≤ c → digit c ≡ 0
+digit-high : (c : ℕ) → 71 ≤ c → digit c ≡ 0
 unfolding digit
 digit-high c h = rw (from_on c 48 (omega arith), from_on c 58 (omega arith), from_on c 65 (omega arith), from_on c 71 h)
 

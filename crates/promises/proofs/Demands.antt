@@ -15,7 +15,8 @@ use Rattle.distance.specs.declared.Coord.{Coord}
 use Rattle.tree.specs.Accepted.{Tree, count}
 use Rattle.tree.specs.Accepted as tree
 use Rattle.accept.specs.Answer as check
-use Rattle.accept.specs.declared.Checked.TheVariants.{Accepted}
+use Rattle.std.proofs.Common.{Ok}
+use Rattle.refusal.specs.Numbers as code
 use Rattle.accept.proofs.Decides.{accepted_of_answer}
 use Rattle.build.specs.Agree.{Held}
 use Rattle.build.specs.Outcome as build
@@ -31,12 +32,12 @@ use Rattle.radius.specs.Within.{reply, finds}
 use Rattle.radius.proofs.Scan.{picked, radius_is-scan}
 
 pub data Trusted (t : Tree) : Type 0 where
-  by_build : (leaf_size : ℕ) (t₀ : Tree) (a : build.Told) → Held t₀.points → build.Outcome leaf_size t₀ a t → a.built ≡ true → Trusted t
-  by_check : check.Answers t Accepted → Trusted t
+  by_build : (leaf_size : ℕ) (t₀ : Tree) (a : code.Told) → Held t₀.points → build.Outcome leaf_size t₀ a t → a.given ≡ true → Trusted t
+  by_check : check.Answers t (Ok tt) → Trusted t
 
 pub trusted_accepted : (t : Tree) → Trusted t → tree.Accepted t
 trusted_accepted t (by_build leaf_size t₀ a h o e) = outcome-accepted leaf_size t₀ a t h o e
-trusted_accepted t (by_check h) = accepted_of_answer t Accepted h refl
+trusted_accepted t (by_check h) = accepted_of_answer t (Ok tt) h refl
 
 module _ (t : Tree) (T : Trusted t) (q : Coord) where
   pub trusted_nearest : (r : Nearest) → near.Answers t q (near.told r) → near.Says (near.near_scan t q) (near.told r)

@@ -32,7 +32,7 @@ root_of_fifty_two = (tt, record { above = lit< tt; below = lit< tt })
 pub examples_hold : Each examples
 unfolding of_bits d2 sq add sub mul le lt eq l.near l.hits all any implies coreb within pairs rises beside borders passes
 examples_hold = (
-  record { answered_is = refl; number_is = refl; indices_are = refl; distances_are = more root_of_nine none },
+  record { answered_is = refl; number_is = refl; detail_is = refl; indices_are = refl; distances_are = more root_of_nine none },
   (
     (refl, more root_of_nine (more root_of_nine (more root_of_sixteen none))),
     (

@@ -13,7 +13,8 @@ use Rattle.tree.specs.Points.{size}
 use Rattle.tree.specs.Accepted.{tree}
 use Rattle.search.specs.Walk.{plain}
 use Rattle.search.specs.Result.{Roots, indices_of, squares_of}
-use Rattle.nearest.specs.Nearest.{at, near_scan, told, Says}
+use Rattle.search.specs.Order.{at}
+use Rattle.nearest.specs.Nearest.{near_scan, told, Says}
 use Rattle.nearest.specs.declared.Nearest.TheVariants.{Hit}
 use Rattle.k_nearest.specs.Scan.{nearest_k}
 use Rattle.radius.specs.Within.{within}

@@ -4,14 +4,14 @@ use mathlib.Core.Path.{◌≡◌, refl, sym, ap, ◌∙◌, subst}
 use mathlib.Core.Logic.{inl, inr}
 use mathlib.Core.Bool.{Bool, true, false, ◌&&◌, cond}
 use mathlib.Core.List.{List, [], ◌++◌}
-use Prim.Native.Nat.{ℕ, zero, suc, ◌%◌, ◌≤◌, ◌<◌, min}
+use Prim.Native.Nat.{ℕ, zero, suc, ◌+◌, ◌%◌, ◌≤◌, ◌<◌}
 use native.Mathlib.Nat.{not-suc-le-zero}
 use native.Mathlib.Omega.{arith}
-use lib.Dec.{ltb, eqb}
+use lib.Dec.{T, ltb, eqb}
 use lib.Ieee.{Float, binary64, of_bits, le}
 use lib.Ieee.Scale.{finite}
-use lib.ListN.{length, get_or, take, drop, get_or-append}
-use lib.Seq.{take_at}
+use lib.ListN.{length, get_or, take, drop, replicate, length-append}
+use lib.Seq.{take_at, length-take-le}
 use borrow.Author.Tests.{eq-eqb, ne_eqb, ltb-true, ltb-false, eqb-false}
 use Rattle.distance.specs.Distance.{sq}
 use Rattle.distance.specs.declared.Coord.{Coord}
@@ -21,13 +21,17 @@ use Rattle.tree.proofs.Each.{Each, each_at}
 use Rattle.rising.proofs.Sorting.{insert_all}
 use Rattle.search.specs.Walk.{Walk, damage, done, Got, broken, got, outcome, walk, walk_all}
 use Rattle.search.specs.Order.{point}
-use Rattle.search.specs.Refusal.{refusal, Told}
-use Rattle.search.specs.Result.{float_zeros}
-use Rattle.search.specs.declared.Found.{Found}
-use Rattle.search.specs.declared.Found.TheVariants.{Hits, Refused}
+use Rattle.search.specs.Refusal.{refusal, Told, told}
+use Rattle.search.specs.Result.{Roots, zeros, float_zeros}
+use Rattle.std.proofs.Common.{Result, Ok, Err}
+use Rattle.std.proofs.lemmas.List.{append_assoc, take-append-drop, drop-append-le}
+use Rattle.refusal.specs.Numbers.{number, detail}
+use Rattle.refusal.specs.declared.Refusal.{Refusal}
+use Rattle.refusal.specs.declared.Refusal.TheVariants.{OddCoordinates, TooManyPoints, PointNotFinite, PlaceNotFinite, RadiusNotValid, IndicesTooShort, NodesTooShort, NoRoom, DamagedTree, UnknownRecord}
+use Rattle.refusal.proofs.Same.{number-nonzero}
 use Rattle.search.proofs.Own.{After, walk_after}
-use Rattle.radius.specs.Within.{within, Reply, refuses, damaged, finds, reply_of, reply, squares, RootsInFront, Unless, Distances, Answered, InRoom}
-use Rattle.radius.specs.Keeping.{Measurable}
+use Rattle.radius.specs.Within.{within, Reply, refuses, damaged, finds, reply_of, reply, says, leaves, squares, Unless, Distances, Answered, InRoom}
+use Rattle.radius.proofs.Measuring.{squares-length}
 
 pub nonzero : (n : ℕ) → (n ≡ 0 → ⊥) → 0 < n
 nonzero zero h = absurd (h refl)
@@ -110,14 +114,15 @@ reply_proper t q radius = go (refusal t.points q) (refusal-low t.points q) (le (
     go (suc k) h ok none g = subst Proper (sym (by-refused (suc k) ok none (reply_of g) (λ (z : suc k ≡ 0). omega arith))) (omega arith, omega arith)
 
 -- ---- the answers that need no walk
-pub answered_as : {a b : Reply} {room : ℕ} {is₀ is : List ℕ} {r : Found} → a ≡ b → Answered b room is₀ r is → Answered a room is₀ r is
+pub answered_as : {a b : Reply} {room : ℕ} {is₀ is : List ℕ} {r : Result ℕ Refusal} → a ≡ b → Answered b room is₀ r is → Answered a room is₀ r is
 answered_as {a} {b} {room} {is₀} {is} {r} e A = subst (λ (x : Reply). Answered x room is₀ r is) (sym e) A
 
-pub answered-refused : (a : Reply) (room k : ℕ) (is : List ℕ) → a ≡ refuses k → (k ≡ 0 → ⊥) → Answered a room is (Refused k 0) is
-answered-refused a room k is e h = rw e (record { told_is = refl; hits_if_zero = λ z. absurd (h z); indices_are = refl })
+pub answered-refused : (a : Reply) (room k : ℕ) (is : List ℕ) (r : Refusal) → a ≡ refuses k → k ≡ number r → detail r ≡ 0 → Answered a room is (Err r) is
+answered-refused a room k is r e h d =
+    rw e (record { told_is = ap (λ (x : ℕ). record { number = number r; detail = x }) d ∙ ap (λ (x : ℕ). record { number = x; detail = 0 }) (sym h); indices_are = refl })
 
-pub answered-none : (a : Reply) (room : ℕ) (is : List ℕ) → a ≡ finds [] → Answered a room is (Hits 0) is
-answered-none a room is e = rw e (record { told_is = go (ltb room 0) refl; hits_if_zero = λ z. refl; indices_are = same (ltb room 0) })
+pub answered-none : (a : Reply) (room : ℕ) (is : List ℕ) → a ≡ finds [] → Answered a room is (Ok 0) is
+answered-none a room is e = rw e (record { told_is = go (ltb room 0) refl; indices_are = same (ltb room 0) })
   where
     go : (b : Bool) → ltb room 0 ≡ b → ◌≡◌ {A = Told} (record { number = 0; detail = 0 }) (record { number = cond b 8 0; detail = 0 })
     go true x = absurd (not-suc-le-zero (ltb-true room 0 x))
@@ -161,77 +166,130 @@ reply-below t q radius l h = go (refusal t.points q) (le (of_bits binary64 0) ra
     go zero false none e w a h = absurd (off h)
     go (suc k) ok none e w a h = absurd (off (sym (by-refused (suc k) ok none (reply_of (outcome w)) (λ (z : suc k ≡ 0). omega arith)) ∙ h))
 
--- ---- the distance slice
-module _ (points : List Float) (q : Coord) (a : Reply) (P : Proper a) (room : ℕ) (is₀ is : List ℕ) (ds₀ ds : List Float) where
-  pub distances-refused : (k d : ℕ) → Answered a room is₀ (Refused k d) is → ds ≡ cond (eqb k 9) (float_zeros ds₀) ds₀ → Distances points q a room ds₀ ds
-  distances-refused k d A e = go a P A
+-- ---- an answer, by its kind
+module _ (a : Reply) (P : Proper a) (room : ℕ) (is₀ is : List ℕ) where
+  -- hits: they stand in front, and there is room for them
+  pub record Hits (n : ℕ) : Type 0 where
+    pub hits : List ℕ
+    pub asked : a ≡ finds hits
+    pub fits : ltb room (length hits) ≡ false
+    pub many : n ≡ length hits
+    pub front : take n is ≡ hits
+
+  pub hits-found : (n : ℕ) → Answered a room is₀ (Ok n) is → Hits n
+  hits-found n A = go a P refl (ap (λ (x : Told). x.number) A.told_is) (ap (λ (x : Told). x.detail) A.told_is) A.indices_are
     where
-      at-number : (j : ℕ) → k ≡ j → ds ≡ cond (eqb j 9) (float_zeros ds₀) ds₀
-      at-number j h = e ∙ ap (λ (x : ℕ). cond (eqb x 9) (float_zeros ds₀) ds₀) h
-
-      other : (j : ℕ) → k ≡ j → j < 9 → ds ≡ ds₀
-      other j h l = at-number j h ∙ ap (λ (b : Bool). cond b (float_zeros ds₀) ds₀) (ne_eqb j 9 (λ (z : j ≡ 9). omega arith))
-
-      go : (a : Reply) → Proper a → Answered a room is₀ (Refused k d) is → Distances points q a room ds₀ ds
-      go (refuses j) P A = other j (ap (λ (x : Told). x.number) A.told_is) P.1
-      go damaged P A = at-number 9 (ap (λ (x : Told). x.number) A.told_is)
-      go (finds l) P A = pick (ltb room (length l)) (ap (λ (x : Told). x.number) A.told_is) A.hits_if_zero
+      go : (b : Reply) → Proper b → a ≡ b → 0 ≡ (says b room).number → n ≡ (says b room).detail → is ≡ leaves b room is₀ → Hits n
+      go (refuses j) P e z d i = absurd (omega (arith, P.0))
+      go damaged P e z d i = absurd (omega arith)
+      go (finds l) P e z d i = pick (ltb room (length l)) refl z i
         where
-          pick : (b : Bool) → k ≡ cond b 8 0 → (◌≡◌ {A = ℕ} (cond b 8 0) 0 → Refused k d ≡ Hits (length l)) → Unless b (squares points q l) ds₀ ds
-          pick true h z = other 8 h (omega arith)
-          pick false h z = let x = z refl in let y : ◌≡◌ {A = ℕ} 0 1 = cc in absurd (omega arith)
+          pick : (b : Bool) → ltb room (length l) ≡ b → ◌≡◌ {A = ℕ} 0 (cond b 8 0) → is ≡ cond b is₀ (l ++ drop (length l) is₀) → Hits n
+          pick true f z i = absurd (omega arith)
+          pick false f z i = record { hits = l; asked = e; fits = f; many = d; front = ap (take n) i ∙ take_at l (drop (length l) is₀) n (sym d) }
 
-  pub distances-hits : (n : ℕ) → Answered a room is₀ (Hits n) is → RootsInFront (squares points q (take n is)) ds₀ ds → Distances points q a room ds₀ ds
-  distances-hits n A R = go a P A
+  damage-found : Answered a room is₀ (Err DamagedTree) is → a ≡ damaged
+  damage-found A = go a P (ap (λ (x : Told). x.number) A.told_is)
     where
-      go : (a : Reply) → Proper a → Answered a room is₀ (Hits n) is → Distances points q a room ds₀ ds
-      go (refuses j) P A = let z : 0 ≡ j = ap (λ (x : Told). x.number) A.told_is in absurd (omega (arith, P.0))
-      go damaged P A = let z : ◌≡◌ {A = ℕ} 0 9 = ap (λ (x : Told). x.number) A.told_is in absurd (omega arith)
-      go (finds l) P A = pick (ltb room (length l)) (ap (λ (x : Told). x.number) A.told_is) (ap (λ (x : Told). x.detail) A.told_is) A.indices_are
+      go : (b : Reply) → Proper b → 9 ≡ (says b room).number → b ≡ damaged
+      go (refuses j) P z = absurd (omega (arith, P.1))
+      go damaged P z = refl
+      go (finds l) P z = pick (ltb room (length l)) z
         where
-          pick : (b : Bool) → ◌≡◌ {A = ℕ} 0 (cond b 8 0) → n ≡ length l → is ≡ cond b is₀ (l ++ drop (length l) is₀) → Unless b (squares points q l) ds₀ ds
-          pick true h e i = absurd (omega arith)
-          pick false h e i = subst (λ (z : List ℕ). RootsInFront (squares points q z) ds₀ ds) (ap (take n) i ∙ take_at l (drop (length l) is₀) n (sym e)) R
+          pick : (b : Bool) → ◌≡◌ {A = ℕ} 9 (cond b 8 0) → finds l ≡ damaged
+          pick true z = absurd (omega arith)
+          pick false z = absurd (omega arith)
 
--- the hits that were found can be measured
-pub measurable : (t : Tree) (q : Coord) (radius : Float) (room n : ℕ) (is₀ is : List ℕ) (ds : List Float) → room ≤ length is₀ → room ≤ length ds → length is ≡ length is₀
-    → Answered (reply t q radius) room is₀ (Hits n) is → Measurable t.points is n ds
-measurable t q radius room n is₀ is ds h k s A = go (reply t q radius) (reply_proper t q radius) (reply-below t q radius) A
-  where
-    go : (a : Reply) → Proper a → ((l : List ℕ) → a ≡ finds l → Below (count t) l) → Answered a room is₀ (Hits n) is → Measurable t.points is n ds
-    go (refuses j) P B A = let z : 0 ≡ j = ap (λ (x : Told). x.number) A.told_is in absurd (omega (arith, P.0))
-    go damaged P B A = let z : ◌≡◌ {A = ℕ} 0 9 = ap (λ (x : Told). x.number) A.told_is in absurd (omega arith)
-    go (finds l) P B A = pick (ltb room (length l)) refl (ap (λ (x : Told). x.number) A.told_is) (ap (λ (x : Told). x.detail) A.told_is) A.indices_are
-      where
-        pick : (b : Bool) → ltb room (length l) ≡ b → ◌≡◌ {A = ℕ} 0 (cond b 8 0) → n ≡ length l → is ≡ cond b is₀ (l ++ drop (length l) is₀) → Measurable t.points is n ds
-        pick true f z e i = absurd (omega arith)
-        pick false f z e i =
-            let r = ltb-false room (length l) f in
-            record {
-              counted = omega arith;
-              inside = omega arith;
-              below = λ j m. subst (λ (x : ℕ). x < count t) (sym (ap (λ (x : List ℕ). get_or x j 0) i ∙ get_or-append l (drop (length l) is₀) 0 j (omega arith))) (each_at (λ i. i < count t) l (B l refl) j 0 (omega arith));
-            }
+-- ---- the query asked over the first entries of a slice
+module _ (a : Reply) (room : ℕ) (is₀ js : List ℕ) (inside : room ≤ length is₀) where
+  front-kept : js ≡ take room is₀ → js ++ drop room is₀ ≡ is₀
+  front-kept e = ap (λ (l : List ℕ). l ++ drop room is₀) e ∙ take-append-drop room is₀
+
+  front-hits : (l : List ℕ) → length l ≤ room → js ≡ l ++ drop (length l) (take room is₀) → js ++ drop room is₀ ≡ l ++ drop (length l) is₀
+  front-hits l h e =
+      ap (λ (x : List ℕ). x ++ drop room is₀) e
+      ∙ append_assoc l (drop (length l) (take room is₀)) (drop room is₀)
+      ∙ ap (λ (x : List ℕ). l ++ x) (sym (drop-append-le (length l) (take room is₀) (drop room is₀) (omega (arith, length-take-le room is₀ inside))) ∙ ap (drop (length l)) (take-append-drop room is₀))
+
+  pub answered_front : (r : Result ℕ Refusal) → ((told r).number ≡ 9 → ⊥) → Answered a room (take room is₀) r js → Answered a room is₀ r (js ++ drop room is₀)
+  answered_front r n A = record { told_is = A.told_is; indices_are = go a (ap (λ (x : Told). x.number) A.told_is) A.indices_are }
+    where
+      go : (b : Reply) → (told r).number ≡ (says b room).number → js ≡ leaves b room (take room is₀) → js ++ drop room is₀ ≡ leaves b room is₀
+      go (refuses k) z e = front-kept e
+      go damaged z e = absurd (n z)
+      go (finds l) z e = pick (ltb room (length l)) refl e
+        where
+          pick : (b : Bool) → ltb room (length l) ≡ b → js ≡ cond b (take room is₀) (l ++ drop (length l) (take room is₀)) → js ++ drop room is₀ ≡ cond b is₀ (l ++ drop (length l) is₀)
+          pick true f e = front-kept e
+          pick false f e = front-hits l (ltb-false room (length l) f) e
+
+not_nine : (r : Refusal) → (r ≡ DamagedTree → ⊥) → number r ≡ 9 → ⊥
+not_nine OddCoordinates n z = omega arith
+not_nine TooManyPoints n z = omega arith
+not_nine (PointNotFinite i) n z = omega arith
+not_nine PlaceNotFinite n z = omega arith
+not_nine RadiusNotValid n z = omega arith
+not_nine (IndicesTooShort i) n z = omega arith
+not_nine (NodesTooShort i) n z = omega arith
+not_nine (NoRoom i) n z = omega arith
+not_nine DamagedTree n z = n refl
+not_nine UnknownRecord n z = omega arith
 
 -- ---- both slices, by what the answer r is
-pub in_room_as : {points : List Float} {q : Coord} {a : Reply} {m n : ℕ} {is₀ is : List ℕ} {ds₀ ds : List Float} {r : Found} → m ≡ n → InRoom points q a m is₀ ds₀ r is ds → InRoom points q a n is₀ ds₀ r is ds
-in_room_as {points} {q} {a} {m} {n} {is₀} {is} {ds₀} {ds} {r} e A = subst (λ (room : ℕ). InRoom points q a room is₀ ds₀ r is ds) e A
+module _ (t : Tree) (q : Coord) (radius : Float) (room : ℕ) (is₀ js : List ℕ) (ds₀ : List Float) (inside : room ≤ length is₀) (r : Result ℕ Refusal) (A : Answered (reply t q radius) room (take room is₀) r js) where
+  abbrev is : List ℕ
+  is = js ++ drop room is₀
 
-module _ (t : Tree) (q : Coord) (radius : Float) (cap room : ℕ) (is₀ is : List ℕ) (ds₀ : List Float) (r : Found) (e : room ≡ min cap (min (length is₀) (length ds₀))) (A : Answered (reply t q radius) room is₀ r is) where
-  shortest : (x : Found) → r ≡ x → Answered (reply t q radius) (min cap (min (length is₀) (length ds₀))) is₀ x is
-  shortest x h = subst (λ (k : ℕ). Answered (reply t q radius) k is₀ x is) e (subst (λ (y : Found). Answered (reply t q radius) room is₀ y is) h A)
+  abbrev a : Reply
+  a = reply t q radius
 
-  pub hits_measurable : (n : ℕ) → r ≡ Hits n → length is ≡ length is₀ → Measurable t.points is n ds₀
-  hits_measurable n h s = measurable t q radius (min cap (min (length is₀) (length ds₀))) n is₀ is ds₀ (omega arith) (omega arith) s (shortest (Hits n) h)
+  at : (x : Result ℕ Refusal) → r ≡ x → ((told x).number ≡ 9 → ⊥) → Answered a room is₀ x is
+  at x e n = answered_front a room is₀ js inside x n (subst (λ (y : Result ℕ Refusal). Answered a room (take room is₀) y js) e A)
 
-  pub hits_with : (n : ℕ) → r ≡ Hits n → (ds : List Float) → RootsInFront (squares t.points q (take n is)) ds₀ ds → InRoom t.points q (reply t q radius) (min cap (min (length is₀) (length ds₀))) is₀ ds₀ (Hits n) is ds
-  hits_with n h ds R = record {
-    answered = shortest (Hits n) h;
-    distances_are = distances-hits t.points q (reply t q radius) (reply_proper t q radius) (min cap (min (length is₀) (length ds₀))) is₀ is ds₀ ds n (shortest (Hits n) h) R;
-  }
+  module _ (n : ℕ) (e : r ≡ Ok n) where
+    found : Hits a (reply_proper t q radius) room is₀ is n
+    found = hits-found a (reply_proper t q radius) room is₀ is n (at (Ok n) e (λ z. omega arith))
 
-  pub refused_with : (k d : ℕ) → r ≡ Refused k d → (ds : List Float) → ds ≡ cond (eqb k 9) (float_zeros ds₀) ds₀ → InRoom t.points q (reply t q radius) (min cap (min (length is₀) (length ds₀))) is₀ ds₀ (Refused k d) is ds
-  refused_with k d h ds z = record {
-    answered = shortest (Refused k d) h;
-    distances_are = distances-refused t.points q (reply t q radius) (reply_proper t q radius) (min cap (min (length is₀) (length ds₀))) is₀ is ds₀ ds k d (shortest (Refused k d) h) z;
-  }
+    -- the hits that were found can be measured
+    pub hits-few : n ≤ room
+    hits-few = omega (arith, found.many, ltb-false room (length found.hits) found.fits)
+
+    pub hits-points : (k d : ℕ) → k < length (take n is) → get_or (take n is) k d < count t
+    hits-points k d h = each_at (λ i. i < count t) (take n is) (subst (Below (count t)) (sym found.front) (reply-below t q radius found.hits found.asked)) k d h
+
+    pub in_room-hits : (rs : List Float) → Roots (squares t.points q (take n is)) rs → InRoom t.points q a room is₀ ds₀ (Ok n) is (rs ++ drop n ds₀)
+    in_room-hits rs R = record {
+      answered = at (Ok n) e (λ z. omega arith);
+      distances_are = subst (λ (b : Reply). Distances t.points q b room ds₀ (rs ++ drop n ds₀)) (sym found.asked) (go (ltb room (length found.hits)) found.fits);
+    }
+      where
+        go : (b : Bool) → b ≡ false → Unless b (squares t.points q found.hits) ds₀ (rs ++ drop n ds₀)
+        go true f = absurd (subst T f tt)
+        go false f = record {
+          roots = rs;
+          each_root = subst (λ (l : List ℕ). Roots (squares t.points q l) rs) found.front R;
+          are = ap (λ (k : ℕ). rs ++ drop k ds₀) (found.many ∙ sym (squares-length t.points q found.hits));
+        }
+
+  pub in_room-damage : r ≡ Err DamagedTree → length js ≡ length (take room is₀) → (ks : List ℕ) (ds : List Float) → ks ≡ zeros is → ds ≡ float_zeros ds₀ → InRoom t.points q a room is₀ ds₀ (Err DamagedTree) ks ds
+  in_room-damage e long ks ds z f =
+      let d = damage-found a (reply_proper t q radius) room (take room is₀) js (subst (λ (y : Result ℕ Refusal). Answered a room (take room is₀) y js) e A) in
+      rw d (record { answered = record { told_is = refl; indices_are = z ∙ ap (λ (k : ℕ). replicate k 0) same }; distances_are = f })
+    where
+      same : length is ≡ length is₀
+      same = length-append js (drop room is₀) ∙ ap (λ (k : ℕ). k + length (drop room is₀)) long ∙ sym (length-append (take room is₀) (drop room is₀)) ∙ ap length (take-append-drop room is₀)
+
+  pub in_room-refused : (k : Refusal) → r ≡ Err k → (k ≡ DamagedTree → ⊥) → InRoom t.points q a room is₀ ds₀ (Err k) is ds₀
+  in_room-refused k e n = record { answered = B; distances_are = go a (ap (λ (x : Told). x.number) B.told_is) }
+    where
+      B : Answered a room is₀ (Err k) is
+      B = at (Err k) e (not_nine k n)
+
+      go : (b : Reply) → number k ≡ (says b room).number → Distances t.points q b room ds₀ ds₀
+      go (refuses j) z = refl
+      go damaged z = absurd (not_nine k n z)
+      go (finds l) z = pick (ltb room (length l)) z
+        where
+          pick : (b : Bool) → number k ≡ cond b 8 0 → Unless b (squares t.points q l) ds₀ ds₀
+          pick true z = refl
+          pick false z = absurd (number-nonzero k z)

@@ -1,7 +1,5 @@
 -- Laws of the radius query. Its users cite Scan (the answer is the plain scan's), Unique (one outcome per input) and OwnHits
 -- (what a hit is over any tree); the others serve the proofs of its functions.
-pub mod Tallies
-pub mod Halves
 pub mod Collecting
 pub mod Measuring
 pub mod Answers

@@ -27,7 +27,8 @@ use Rattle.rising.proofs.Sorting.{insert-is, insert-rises}
 use Rattle.search.specs.Walk.{Walk, done, got, outcome, walk_all, plain, damage}
 use Rattle.search.specs.Order.{point}
 use Rattle.search.specs.Refusal.{refusal, Told, told}
-use Rattle.search.specs.declared.Found.{Found}
+use Rattle.std.proofs.Common.{Result}
+use Rattle.refusal.specs.declared.Refusal.{Refusal}
 use Rattle.search.proofs.Unrefused.{refusal-finite}
 use Rattle.tree.proofs.Insert.{ins, ins_comm, Sorted}
 use Rattle.search.proofs.Rank.{no_nan, point-good, far-point}
@@ -188,7 +189,7 @@ never_damaged t q radius A h = by (eqb (refusal t.points q) 0) refl (le (of_bits
     by true e false f = off (refuses 5) (reply_five t q radius (eqb-true (refusal t.points q) 0 e) f) (λ z. let y : ◌≡◌ {A = ℕ} 0 1 = cc in omega arith)
     by false e c f = off (refuses (refusal t.points q)) (reply-refused t q radius (refusal t.points q) refl (eqb-false (refusal t.points q) 0 e)) (λ z. let y : ◌≡◌ {A = ℕ} 0 1 = cc in omega arith)
 
-pub nine_not_accepted : (t : Tree) (q : Coord) (radius : Float) (room : ℕ) (is₀ is : List ℕ) (r : Found) → Answered (reply t q radius) room is₀ r is → (told r).number ≡ 9 → Accepted t → ⊥
+pub nine_not_accepted : (t : Tree) (q : Coord) (radius : Float) (room : ℕ) (is₀ is : List ℕ) (r : Result ℕ Refusal) → Answered (reply t q radius) room is₀ r is → (told r).number ≡ 9 → Accepted t → ⊥
 nine_not_accepted t q radius room is₀ is r W h A = go (reply t q radius) (reply_proper t q radius) refl (sym (ap (λ (x : Told). x.number) W.told_is) ∙ h)
   where
     go : (a : Reply) → Proper a → reply t q radius ≡ a → (says a room).number ≡ 9 → ⊥

@@ -1,5 +1,4 @@
 -- The radius query: every point whose squared distance is at most radius * radius, by rising index.
---   place x y               the place that a query stands at
 --   within points q r2      the query, for the walk: its state is the hits so far
 --   refused points q radius the first of 1, 2, 4 and 5 that applies; 0 where none does
 --   Reply                   what the query comes to before room is asked: a refusal, damage, or its hits
@@ -10,22 +9,18 @@
 --   Answered a room is₀ r is  the answer r, and the index slice
 --   InRoom ..               the same with a distance slice
 --   WithDistances ..        the same where room is the shorter length of the two slices
-use Rattle.std.specs.Prelude.{◌≡◌, Bool, true, false, cond, List, [], ◌++◌, map, ℕ, min, ltb, eqb, length, drop, Float}
+use Rattle.std.specs.Prelude.{◌≡◌, Bool, true, false, cond, List, [], ◌++◌, map, ℕ, min, ltb, eqb, length, drop, Float, Result}
 use Rattle.std.specs.Float.{binary64}
 use Rattle.std.specs.Float.Ieee.{of_bits, lt, le}
 use Rattle.distance.specs.Distance.{sq, bound, corner}
 use Rattle.distance.specs.declared.Coord.{Coord}
+use Rattle.refusal.specs.declared.Refusal.{Refusal}
 use Rattle.tree.specs.Accepted.{Tree, count}
 use Rattle.rising.specs.Sort.{insert}
 use Rattle.search.specs.Walk.{Search, Got, broken, got, outcome, walk_all}
 use Rattle.search.specs.Order.{point}
 use Rattle.search.specs.Refusal.{refusal, Told, told}
 use Rattle.search.specs.Result.{Roots, zeros, float_zeros}
-use Rattle.search.specs.declared.Found.{Found}
-use Rattle.search.specs.declared.Found.TheVariants.{Hits}
-
-abbrev pub place : Float → Float → Coord
-place x y = record { x = x; y = y }
 
 -- a node is passed over where its bound is above r2, never at equality; a leaf is taken whole where its farthest corner is
 -- within r2
@@ -85,14 +80,13 @@ Distances points q (refuses number) room distances₀ distances = distances ≡ 
 Distances points q damaged room distances₀ distances = distances ≡ float_zeros distances₀
 Distances points q (finds hits) room distances₀ distances = Unless (ltb room (length hits)) (squares points q hits) distances₀ distances
 
-pub record Answered (a : Reply) (room : ℕ) (indices₀ : List ℕ) (r : Found) (indices : List ℕ) : Type 0 where
+pub record Answered (a : Reply) (room : ℕ) (indices₀ : List ℕ) (r : Result ℕ Refusal) (indices : List ℕ) : Type 0 where
   pub told_is : told r ≡ says a room
-  pub hits_if_zero : (says a room).number ≡ 0 → r ≡ Hits (says a room).detail
   pub indices_are : indices ≡ leaves a room indices₀
 
-pub record InRoom (points : List Float) (q : Coord) (a : Reply) (room : ℕ) (indices₀ : List ℕ) (distances₀ : List Float) (r : Found) (indices : List ℕ) (distances : List Float) : Type 0 where
+pub record InRoom (points : List Float) (q : Coord) (a : Reply) (room : ℕ) (indices₀ : List ℕ) (distances₀ : List Float) (r : Result ℕ Refusal) (indices : List ℕ) (distances : List Float) : Type 0 where
   pub answered : Answered a room indices₀ r indices
   pub distances_are : Distances points q a room distances₀ distances
 
-abbrev pub WithDistances : List Float → Coord → Reply → List ℕ → List Float → Found → List ℕ → List Float → Type 0
+abbrev pub WithDistances : List Float → Coord → Reply → List ℕ → List Float → Result ℕ Refusal → List ℕ → List Float → Type 0
 WithDistances points q a indices₀ distances₀ r indices distances = InRoom points q a (min (length indices₀) (length distances₀)) indices₀ distances₀ r indices distances

@@ -1,5 +1,4 @@
 -- `accept::is_grown` meets its contract: indices once each and a sound root make the tree. Assumes nothing.
-use Rattle.std.proofs.Common.{arith}
 use Rattle.accept.proofs.Entry.{once-grown}
 use Rattle.accept.proofs.is_grown.Goals as goal
 

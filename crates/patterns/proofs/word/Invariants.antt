@@ -1,10 +1,6 @@
--- `word` meets its contract: the loop's invariant is `Written` of `Text.antt`; the measure is the digits to come. Assumes nothing.
-use Prim.Native.Nat.{◌-◌}
+-- `word` meets its contract: the loop's invariant is `Written` of `Text.antt`. Assumes nothing.
 use Rattle.patterns.proofs.Text.{Written}
 use Rattle.patterns.proofs.word.Given as goal
 
-abbrev pub invariant-loop-k : goal.invariant-loop-k
-invariant-loop-k l = Written l.text l.at l.v l.k
-
-abbrev pub decreases-loop-k : goal.decreases-loop-k
-decreases-loop-k l = 16 - l.k
+abbrev pub invariant-loop-c : goal.invariant-loop-c
+invariant-loop-c l = Written l.text l.at l.v l.c-index

@@ -31,7 +31,9 @@ small c =
     omega (arith, counted c, nodes-small (leaf_of a.self.leaf_size) (size a.points.now) (leaf_of-pos a.self.leaf_size) (usable c).in_limit)
 
 pub overflow_cast-result-then-whole_nodes-need : goal.overflow_cast-result-then-whole_nodes-need
-overflow_cast-result-then-whole_nodes-need c = omega (arith, small (goal.at.overflow_cast-result-then-whole_nodes-need c).After-count_nodes-need)
+overflow_cast-result-then-whole_nodes-need c =
+    let d = (goal.at.overflow_cast-result-then-whole_nodes-need c).After-count_nodes-need in
+    omega (arith, small d, (usable d).in_limit)
 
 pub returns-then-whole_nodes-need : goal.returns-then-whole_nodes-need
 returns-then-whole_nodes-need c =

@@ -1,4 +1,4 @@
--- The place rises, and stays in the text. Assumes nothing.
+-- The place rises, and the text ends. Assumes nothing.
 use Rattle.std.proofs.Common.{length, ◌-◌, ◌≤◌, ◌≡◌}
 use Rattle.build_maps.proofs.maps.print_all.Given as goal
 

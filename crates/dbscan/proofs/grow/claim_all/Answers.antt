@@ -9,20 +9,11 @@ use Rattle.dbscan.proofs.grow.claim_all.Goals as goal
 pub loop-x-init : goal.loop-x-init
 loop-x-init c = (omega arith, refl, refl, c.requires, refl, refl)
 
-pub offset_bounds-work-x : goal.offset_bounds-work-x
-offset_bounds-work-x c = let i = c.loop-x.invariant in omega (arith, i.3.front, i.3.room)
-
 pub bounds-work-x : goal.bounds-work-x
 bounds-work-x c = let i = c.loop-x.invariant in omega (arith, c.loop-x-test.true, i.3.front, i.3.room)
 
-pub overflow_cast-k : goal.overflow_cast-k
-overflow_cast-k c = omega (arith, c.type_inv.work c.loop-x.x)
-
 pub claim-end-requires : goal.claim-end-requires
 claim-end-requires c = roomy_claimable c.loop-x.invariant.3 c.loop-x.x c.loop-x-test.true
-
-pub overflow_add-x : goal.overflow_add-x
-overflow_add-x c = omega (arith, c.loop-x-test.true)
 
 pub loop-x-preserved : goal.loop-x-preserved
 loop-x-preserved c =
@@ -31,7 +22,7 @@ loop-x-preserved c =
     let t = c.loop-x-test.true in
     let k = c.claim-end in
     let r = roomy_turn a.count a.cluster.seed a.cluster.label l.x (take a.count a.work.now) l.work l.end l.labels _ _ _ _ l.invariant.3 l.invariant.4 t l.invariant.5 k.ensures in
-    (omega arith, k.auto.labels ∙ l.invariant.1, k.auto.work ∙ l.invariant.2, r.0, r.1, r.2)
+    (omega (arith, t), k.auto.labels ∙ l.invariant.1, k.auto.work ∙ l.invariant.2, r.0, r.1, r.2)
 
 pub returns : goal.returns
 returns c =

@@ -13,16 +13,18 @@ use Rattle.dbscan.proofs.Rounds.{growing_start, growing-roomy, growing-by, growi
 use Rattle.dbscan.proofs.grow.expand.Goals as goal
 use Rattle.dbscan.proofs.grow.expand.Goals.{Start}
 
-begun : (c : Start) → Growing (near c.args.tree.now.points c.args.density.epsilon) (size c.args.tree.now.points) c.args.density.min_samples c.args.i c.args.cluster.label (set c.args.work.now (size c.args.tree.now.points) c.args.i) (size c.args.tree.now.points) ((size c.args.tree.now.points) + 1) (set c.args.labels.now c.args.i c.args.c)
+begun : (c : Start) → Growing (near c.args.tree.now.points c.args.density.epsilon) (size c.args.tree.now.points) c.args.density.min_samples c.args.cluster.seed c.args.cluster.label (set c.args.work.now (size c.args.tree.now.points) c.args.cluster.seed) (size c.args.tree.now.points) ((size c.args.tree.now.points) + 1) (set c.args.labels.now c.args.cluster.seed c.args.cluster.label)
 begun c = growing_start (near c.args.tree.now.points c.args.density.epsilon) (size c.args.tree.now.points) c.args.density.min_samples (near_comm c.args.tree.now.points c.args.density.epsilon) c.requires.between c.requires.core c.requires.bare
 
 pub claim_all-tail-requires : goal.claim_all-tail-requires
 claim_all-tail-requires c =
-    growing-roomy (near c.args.tree.now.points c.args.density.epsilon) (size c.args.tree.now.points) c.args.density.min_samples (begun (goal.at.claim_all-tail-requires c).Start) (filled-set (near c.args.tree.now.points c.args.density.epsilon) (size c.args.tree.now.points) c.args.density.min_samples c.args.i c.requires.filled)
+    rw c.len-n.ensures (
+    growing-roomy (near c.args.tree.now.points c.args.density.epsilon) (size c.args.tree.now.points) c.args.density.min_samples (begun (goal.at.claim_all-tail-requires c).Start) (filled-set (near c.args.tree.now.points c.args.density.epsilon) (size c.args.tree.now.points) c.args.density.min_samples c.args.cluster.seed c.requires.filled))
 
 pub loop-head-init : goal.loop-head-init
 loop-head-init c =
-    growing-by (near c.args.tree.now.points c.args.density.epsilon) (size c.args.tree.now.points) c.args.density.min_samples (near_comm c.args.tree.now.points c.args.density.epsilon) c.args.i c.args.count (begun (goal.at.loop-head-init c).Start) (omega arith) (get_or-set_same c.args.work.now (size c.args.tree.now.points) c.args.i 0 (omega (arith, c.requires.between.sizes.work, c.requires.core.inside))) c.requires.core (filled-set (near c.args.tree.now.points c.args.density.epsilon) (size c.args.tree.now.points) c.args.density.min_samples c.args.i c.requires.filled) c.claim_all-tail.ensures
+    rw c.len-n.ensures (
+    growing-by (near c.args.tree.now.points c.args.density.epsilon) (size c.args.tree.now.points) c.args.density.min_samples (near_comm c.args.tree.now.points c.args.density.epsilon) c.args.cluster.seed c.args.around (begun (goal.at.loop-head-init c).Start) (omega arith) (get_or-set_same c.args.work.now (size c.args.tree.now.points) c.args.cluster.seed 0 (omega (arith, c.requires.between.sizes.work, c.requires.core.inside))) c.requires.core (filled-set (near c.args.tree.now.points c.args.density.epsilon) (size c.args.tree.now.points) c.args.density.min_samples c.args.cluster.seed c.requires.filled) (rw c.len-n.ensures at c.claim_all-tail.ensures))
 
 pub visit-tail-requires : goal.visit-tail-requires
 visit-tail-requires c =

@@ -7,7 +7,7 @@ use Rattle.dbscan.specs.Growing.{Growing}
 use Rattle.dbscan.proofs.grow.expand.Given as goal
 
 abbrev pub invariant-loop-head : goal.invariant-loop-head
-invariant-loop-head l = Growing (near l.points l.epsilon) (size l.points) l.m l.i l.c l.work l.head l.tail l.labels
+invariant-loop-head l = Growing (near l.tree.points l.density.epsilon) (size l.tree.points) l.density.min_samples l.cluster.seed l.cluster.label l.work l.head l.tail l.labels
 
 abbrev pub decreases-loop-head : goal.decreases-loop-head
-decreases-loop-head l = 2 * size l.points - l.head
+decreases-loop-head l = 2 * size l.tree.points - l.head

@@ -21,7 +21,7 @@ same c = get_or_inside c.args.labels.now c.args.i noise 0 (omega (arith, c.requi
 
 after : (c : After-neighbours-around) → Queried (near c.args.tree.now.points c.args.density.epsilon) (size c.args.tree.now.points) c.args.i c.neighbours-around.result c.args.work.now (c.neighbours-around.new.out ++ drop (size c.args.tree.now.points) c.args.work.now) c.args.labels.now
 after c =
-    queried (near c.args.tree.now.points c.args.density.epsilon) (size c.args.tree.now.points) c.args.i c.neighbours-around.result c.args.work.now c.args.labels.now c.neighbours-around.new.out c.requires.between.sizes c.neighbours-around.auto.out c.neighbours-around.ensures
+    queried (near c.args.tree.now.points c.args.density.epsilon) (size c.args.tree.now.points) c.args.i c.neighbours-around.result c.args.work.now c.args.labels.now c.neighbours-around.new.out c.requires.between.sizes (rw c.len-n.ensures at c.neighbours-around.auto.out) c.neighbours-around.ensures
 
 pub returns-then-labels-i : goal.returns-then-labels-i
 returns-then-labels-i c =
@@ -35,24 +35,26 @@ slice_bounds-neighbours-end-2 c = simp length-take (omega arith)
 
 pub neighbours-around-requires : goal.neighbours-around-requires
 neighbours-around-requires c =
-    record { search = c.requires.search; point = c.requires.point; room = length-take-le _ c.args.work.now (omega (arith, c.requires.between.sizes.work)) }
+    record { search = c.requires.search; point = c.requires.point; room = rw c.len-n.ensures (length-take-le _ c.args.work.now (omega (arith, c.requires.between.sizes.work))) }
 
-pub shape_of-work-then-around-m : goal.shape_of-work-then-around-m
-shape_of-work-then-around-m c = (after (goal.at.shape_of-work-then-around-m c).After-neighbours-around).sizes.work ∙ sym c.requires.between.sizes.work
+pub shape_of-work-then-around-density : goal.shape_of-work-then-around-density
+shape_of-work-then-around-density c = rw c.len-n.ensures ((after (goal.at.shape_of-work-then-around-density c).After-neighbours-around).sizes.work ∙ sym c.requires.between.sizes.work)
 
-pub returns-then-around-m : goal.returns-then-around-m
-returns-then-around-m c =
-    between-skip (near c.args.tree.now.points c.args.density.epsilon) (size c.args.tree.now.points) c.args.density.min_samples c.requires.between (after (goal.at.returns-then-around-m c).After-neighbours-around).sizes (λ k. omega (arith, k.many, c.if-around-m.true, c.neighbours-around.ensures.count))
+pub returns-then-around-density : goal.returns-then-around-density
+returns-then-around-density c =
+    rw c.len-n.ensures (
+    between-skip (near c.args.tree.now.points c.args.density.epsilon) (size c.args.tree.now.points) c.args.density.min_samples c.requires.between (after (goal.at.returns-then-around-density c).After-neighbours-around).sizes (λ k. omega (arith, k.many, c.if-around-density.true, c.neighbours-around.ensures.count)))
 
 pub expand-requires : goal.expand-requires
 expand-requires c =
+    rw c.len-n.ensures (
     record {
       search = c.requires.search;
       between = between-moved (near c.args.tree.now.points c.args.density.epsilon) (size c.args.tree.now.points) c.args.density.min_samples c.requires.between (after (goal.at.expand-requires c).After-neighbours-around).sizes;
-      core = record { inside = c.requires.point; asked = c.requires.asked; many = omega (arith, c.if-around-m.false, c.neighbours-around.ensures.count) };
+      core = record { inside = c.requires.point; asked = c.requires.asked; many = omega (arith, c.if-around-density.false, c.neighbours-around.ensures.count) };
       bare = same (goal.at.expand-requires c).Start ∙ c.if-labels-i.false;
       filled = (after (goal.at.expand-requires c).After-neighbours-around).filled;
-    }
+    })
 
 pub overflow_add-result : goal.overflow_add-result
 overflow_add-result c =
