@@ -1,16 +1,16 @@
 -- The lines of a text, counted a place at a time. Assumes nothing.
-use Rattle.std.proofs.Common.{◌≡◌, ◌≢◌, refl, sym, ap, ◌∙◌, Bool, true, false, cond, ◌&&◌, List, ℕ, zero, suc, ◌+◌, ◌≤◌, ◌<◌, Option, Some, None, unwrap_or, IfSome, arith, get_or, length}
+use Rattle.std.proofs.Common.{◌≡◌, ◌≢◌, refl, sym, ap, ◌∙◌, Bool, true, false, cond, List, ℕ, zero, suc, ◌+◌, ◌≤◌, ◌<◌, Option, Some, None, unwrap_or, IfSome, arith, get_or, length}
 use native.Mathlib.Numerals.{add-one}
 use lib.Dec.{T, eqb, eqb→eq, eqb_refl}
 use lib.Ieee.Bits.{is_true}
 use mathlib.Core.Bool.{true≢false}
 use mathlib.Core.Path.{subst}
-use Rattle.replay_answers.specs.Lines.{begins, lines, code, count_of, Tallied}
+use Rattle.replay_answers.specs.Lines.{begins, starts, lines, code, count_of, Tallied}
 use Rattle.replay_answers.specs.declared.answers.Tally.{Tally}
 use Rattle.replay_answers.specs.declared.recorded.Letter.{Letter}
 use Rattle.replay_answers.specs.declared.recorded.Letter.TheVariants.{Map, Nearest, KNearest, Radius, Labels}
 
-lines-next : (s : List ℕ) (c n : ℕ) → lines s c (n + 1) ≡ lines s c n + cond (begins s n && eqb (get_or s n 0) c) 1 0
+lines-next : (s : List ℕ) (c n : ℕ) → lines s c (n + 1) ≡ lines s c n + cond (starts s c n) 1 0
 unfolding lines
 lines-next s c n = rw (add-one n) refl
 
@@ -21,7 +21,7 @@ at_most_one false = omega arith
 pub lines-le : (s : List ℕ) (c n : ℕ) → lines s c n ≤ n
 unfolding lines
 lines-le s c zero = omega arith
-lines-le s c (suc n) = omega (arith, lines-le s c n, at_most_one (begins s n && eqb (get_or s n 0) c))
+lines-le s c (suc n) = omega (arith, lines-le s c n, at_most_one (starts s c n))
 
 -- before the first place nothing is counted
 pub tallied_first : {s : List ℕ} {t : Tally} → ((l : Letter) → count_of t l ≡ 0) → t.first_wrong ≡ None → Tallied s 0 t
@@ -29,7 +29,7 @@ unfolding lines
 tallied_first h f = record { counts = h; first_within = rw f tt; first_begins = rw f tt }
 
 -- no line of a letter that counts begins at n
-pub tallied_none : {s : List ℕ} {n : ℕ} {t : Tally} → Tallied s n t → ((l : Letter) → begins s n && eqb (get_or s n 0) (code l) ≡ false) → Tallied s (n + 1) t
+pub tallied_none : {s : List ℕ} {n : ℕ} {t : Tally} → Tallied s n t → ((l : Letter) → starts s (code l) n ≡ false) → Tallied s (n + 1) t
 tallied_none {s} {n} {t} w h =
     record {
       counts = λ l. w.counts l ∙ sym (still l);

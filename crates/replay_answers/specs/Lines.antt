@@ -1,5 +1,6 @@
 -- The recorded list by its lines. Definitions only.
 --   begins s i       a line of s begins at place i: it is the first, or a line end stands before it
+--   starts s c i     a line with the letter c begins there
 --   lines s c n      how many lines of s that begin before place n have the letter c
 --   NextLine s p r   r is the first place past p where a line of s begins; the end of s where there is none
 --   Says s p x r     what it means that the word at p is the pattern of x, or that it is not
@@ -16,9 +17,12 @@ use Rattle.replay_answers.specs.declared.recorded.Letter.TheVariants.{Map, Neare
 abbrev pub begins : List ℕ → ℕ → Bool
 begins s i = eqb i 0 || eqb (get_or s (i - 1) 0) 10
 
+abbrev pub starts : List ℕ → ℕ → ℕ → Bool
+starts s c i = begins s i && eqb (get_or s i 0) c
+
 unfoldable pub lines : List ℕ → ℕ → ℕ → ℕ
 lines s c zero = 0
-lines s c (suc n) = lines s c n + cond (begins s n && eqb (get_or s n 0) c) 1 0
+lines s c (suc n) = lines s c n + cond (starts s c n) 1 0
 
 pub record NextLine (s : List ℕ) (p r : ℕ) : Type 0 where
   pub past : p < r

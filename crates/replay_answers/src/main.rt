@@ -20,12 +20,13 @@ fn say_line(rt: &impl Print, text: &[u8], at: usize) -> std::io::Result<()>
 
 fn replay_input<const N: usize>(rt: &impl Print, text: &mut [u8; N]) -> std::io::Result<()> {
     let n = io::read_full(STDIN_FILENO, text);
-    let tally = answers::replay(&text[..n]);
+    let text = &text[..n];
+    let tally = answers::replay(text);
     match tally.first_wrong {
         None => println!(rt; "{tally}: all as recorded"),
         Some(at) => {
             println!(rt; "{tally}: not as recorded, the first being")?;
-            say_line(rt, &text[..n], at)
+            say_line(rt, text, at)
         }
     }
 }

@@ -1,8 +1,8 @@
 //! The recorded list as text: a line is a letter and words, each after a blank and of 16 hex digits.
-ghost use Rattle.std.specs.Prelude.{◌≡◌, ◌≢◌, true, false, ◌&&◌, cond, ◌<◌, ltb, eqb, length, slice_index, IfSome, IfNone};
+ghost use Rattle.std.specs.Prelude.{◌≡◌, ◌≢◌, true, false, cond, ◌<◌, ltb, eqb, length, slice_index, OnSome, IfSome, IfNone};
 ghost use Rattle.patterns.specs.Digits.{word, float_at};
 ghost use Rattle.replay_answers.specs.declared.recorded.Letter.{Letter};
-ghost use Rattle.replay_answers.specs.Lines.{begins, Says, NextLine, code};
+ghost use Rattle.replay_answers.specs.Lines.{begins, starts, Says, NextLine, code};
 
 /// What a line begins: a map, or a question with its answer. The lines that belong to one have letters of their own.
 #[derive(Clone, Copy, Debug, PartialEq, Eq)]
@@ -42,9 +42,9 @@ fn begins(text: &[u8], at: usize) -> bool
 /// The letter of the line that begins at a place, if one does and is a map's or a question's.
 pub fn letter_at(text: &[u8], at: usize) -> Option<Letter>
     requires { at < length text.now }
-    ensures begins { IfSome result (λ l. begins text.now at ≡ true) }
+    ensures begins { OnSome result (begins text.now at ≡ true) }
     ensures letter { IfSome result (λ l. slice_index text.now at ≡ code l) }
-    ensures none { IfNone result ((l : Letter) → (begins text.now at && eqb (slice_index text.now at) (code l)) ≡ false) }
+    ensures none { IfNone result ((l : Letter) → starts text.now (code l) at ≡ false) }
 {
     if begins(text, at) {
         Letter::of(text[at])
@@ -57,7 +57,7 @@ pub fn letter_at(text: &[u8], at: usize) -> Option<Letter>
 pub fn up_to(text: &[u8], at: usize, most: u32) -> u32
     ensures { result ≡ cond (ltb (word text.now at) most) (word text.now at) most }
 {
-    patterns::word(text, at).min(most as u64) as u32
+    patterns::word(text, at).min(u64::from(most)) as u32
 }
 
 /// The float whose pattern stands there.
@@ -71,7 +71,7 @@ pub fn float(text: &[u8], at: usize) -> f64
 pub fn says(text: &[u8], at: usize, v: u32) -> bool
     ensures { result ≡ eqb (word text.now at) v }
 {
-    patterns::word(text, at) == v as u64
+    patterns::word(text, at) == u64::from(v)
 }
 
 /// Does it have this float's pattern?

@@ -1,5 +1,6 @@
+-- `replay` meets its contract: a place more, with a line that begins there or with none (`Lines.antt`). Assumes nothing.
 use Rattle.std.proofs.Common.{arith, rules}
-use Rattle.replay_answers.specs.Lines.{code, Tallied}
+use Rattle.replay_answers.specs.Lines.{code}
 use Rattle.replay_answers.proofs.Lines.{lines-le, tallied_first, tallied_none, tallied_one, tallied_wrong}
 use Rattle.replay_answers.proofs.answers.replay.Goals as goal
 use Rattle.replay_answers.proofs.answers.replay.Goals.{then-not-agrees, else-not-agrees}
@@ -12,7 +13,8 @@ lines-preserved-in_default c = tallied_none c.lines.invariant c.in_default.ensur
 
 pub count-requires : goal.count-requires
 count-requires c =
-    omega (arith, c.lines.invariant.counts c.in-Some.letter, lines-le c.args.text.now (code c.in-Some.letter) c.lines.at, c.lines-test.true)
+    let l = c.in-Some.letter in
+    omega (arith, c.lines.invariant.counts l, lines-le c.args.text.now (code l) c.lines.at, c.lines-test.true)
 
 pub lines-preserved : goal.lines-preserved
 lines-preserved c =

@@ -1,3 +1,4 @@
+-- `next_line` has met no line that begins. Assumes nothing.
 use Rattle.std.proofs.Common.{◌≡◌, false, ℕ, ◌<◌}
 use Rattle.replay_answers.specs.Lines.{begins}
 use Rattle.replay_answers.proofs.recorded.next_line.Given as goal
