@@ -136,18 +136,19 @@ fn in_turn(first: bool, left: Node, right: Node) -> Turn
     }
 }
 
-// The children of a branch, neither of them damage, in the order of the visit.
+// The children of a branch, neither of them damage, in the order of the visit. Generic, so that each query has a copy of its
+// own, which is compiled into its walk.
 #[inline(always)]
-fn children(
+fn children<Q: Query>(
     tree: &Tree,
     parent: Node,
     left: u32,
     right: u32,
     from: Coord,
-    is_nearer_first: bool,
+    query: &Q,
 ) -> Result<Turn, Damage>
     requires { kind_of tree.now parent ≡ Branch left right }
-    ensures turned { IfOk result (Turned tree.now from is_nearer_first parent left right) }
+    ensures turned { IfOk result (Turned tree.now from (Q.rules (Q.fixed query.now)).nearer_first parent left right) }
     ensures shares { IfOk result (Shares tree.now parent) }
     ensures damaged { OnErr result (OneDamaged tree.now parent left right) }
 {
@@ -156,7 +157,7 @@ fn children(
     if !tree.is_sound(left) || !tree.is_sound(right) {
         return Err(Damage);
     }
-    let first = !is_nearer_first || is_left_nearer(tree, left, right, from);
+    let first = !query.is_nearer_first() || is_left_nearer(tree, left, right, from);
     Ok(in_turn(first, left, right))
 }
 
@@ -176,7 +177,7 @@ fn visit<Q: Query>(tree: &Tree, x: f64, y: f64, node: Node, query: &mut Q) -> Re
     let Kind::Branch(left, right) = tree.known_kind(node.number) else {
         return query.scan(tree, tree.part(node), from, tree.known_bounds(node.number));
     };
-    let Turn { near, far } = children(tree, node, left, right, from, query.is_nearer_first())?;
+    let Turn { near, far } = children(tree, node, left, right, from, query)?;
     let near_bound = node_bound(tree, near, from);
     let far_bound = node_bound(tree, far, from);
     if !query.passes(near_bound) {

@@ -46,7 +46,7 @@ returns-in_err-visit-clause-walks g t c =
     let R = g.Q.Query.rules (g.Q.Query.fixed a.query.now) in
     let is = sound-known a.tree.now.boxes a.tree.now.links a.node.number a.node.start a.node.end c.requires.sound ∙ sym c.known_kind.ensures ∙ c.in-Branch.is in
     let p = err_from_is_err_and c.from_residual-in_err-visit.result c.from_residual-in_err-visit.ensures.1 in
-    rw p.1 (near-broken a.tree.now (at a.x a.y) R a.node s _ _ is c.requires.entered _ (rw c.is_nearer_first.ensures at c.in_ok-near.ensures.turned)
+    rw p.1 (near-broken a.tree.now (at a.x a.y) R a.node s _ _ is c.requires.entered _ c.in_ok-near.ensures.turned
     (rw c.in_err-visit.was at c.visit.ensures.walks))
 
 pub returns-then-passes-clause-walks : goal.returns-then-passes-clause-walks
@@ -71,7 +71,7 @@ returns-then-passes-clause-walks g t c =
         refl,
       )
     ] in
-    near-then t q R a.node s _ _ is c.requires.entered T (rw c.is_nearer_first.ensures at c.in_ok-near.ensures.turned) u near.0 _
+    near-then t q R a.node s _ _ is c.requires.entered T c.in_ok-near.ensures.turned u near.0 _
     (sound-skip t Q T.far.number T.far.start T.far.end u b.far_sound b.far_some
     (rw (near.1, c.node_bound-far_bound.ensures) at (sym c.passes-2.ensures ∙ c.if-passes.true)))
 
@@ -97,5 +97,5 @@ returns-clause-walks g t c =
         refl,
       )
     ] in
-    near-then t q R a.node s _ _ is c.requires.entered T (rw c.is_nearer_first.ensures at c.in_ok-near.ensures.turned) u near.0 _
+    near-then t q R a.node s _ _ is c.requires.entered T c.in_ok-near.ensures.turned u near.0 _
     (rw near.1 at c.visit-2.ensures.walks)
