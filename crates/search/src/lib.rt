@@ -241,12 +241,11 @@ pub fn check_place(points: &[f64], place: Coord) -> Result<(), Refusal>
     Ok(())
 }
 
-/// The first n entries, squared distances, become distances.
-pub fn take_roots(s: &mut [f64], n: usize)
-    requires { n ≤ length s.old }
-    ensures { Rooted n s.old s.new }
+/// Squared distances become distances.
+pub fn take_roots(squares: &mut [f64])
+    ensures { Rooted (length squares.old) squares.old squares.new }
 {
-    for i in 0..n {
-        s[i] = root::square_root(s[i]);
+    for i in 0..squares.len() {
+        squares[i] = root::square_root(squares[i]);
     }
 }

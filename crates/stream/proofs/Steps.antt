@@ -17,17 +17,6 @@ use Rattle.stream.specs.Stream.{after, goes}
 use Rattle.stream.specs.Feeding.{so_far, Ready, Replies, Stepped}
 use Rattle.stream.specs.Asked.{Raising, Asking, Plain, Query}
 
-pub raising : {p : List Float} {n : ℕ} {i : List ℕ} {b : List Float} {l : List ℕ} {fresh : Bool} → Ready p n i b l fresh → Raising (so_far p n) i b l
-raising {p} {n} R =
-    let e : length (so_far p n) ≡ 2 * n = length-take-le (2 * n) p (omega (arith, R.few, R.points_room)) in record {
-      even = omega (arith, e);
-      few = omega (arith, e, R.few);
-      all_finite = R.all_finite;
-      indices_room = R.indices_room;
-      boxes_room = R.boxes_room;
-      links_room = R.links_room;
-    }
-
 pub plain_of : {t : Tree} {out : List ℕ} {at : ℕ} → Asking t out at → Plain t.points out at
 plain_of A = record { even = A.stands.even; few = A.few; all_finite = A.stands.all_finite; room = A.room }
 
@@ -49,8 +38,5 @@ still (Point x y) q h u = absurd (h x y refl)
 still Unknown q h u = absurd (u refl)
 
 module _ {p : List Float} {out : List ℕ} {at : ℕ} {out' : List ℕ} {w : ℕ} where
-  pub query_stepped : {what : Record} {p' : List Float} → Still what p → p' ≡ p → Replies what p out at out' w → Stepped what p out at p' out' w true
-  query_stepped S e q = record { replies = q; points = e ∙ S.points; going = S.going }
-
   pub unknown_stepped : Put out at (error 10) out' w → Stepped Unknown p out at p out' w false
   unknown_stepped q = record { replies = unknown_replies q; points = refl; going = refl }

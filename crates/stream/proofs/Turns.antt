@@ -54,15 +54,6 @@ module _ (s : List ℕ) (from : ℕ) (p₀ : List Float) (out₀ : List ℕ) whe
     pub full : length out - w < 32768 → FedBy s from p₀ out₀ p out (record { used = at; wrote = w; stop = Full })
     full h = record { text = F.text; takes = F.takes; ends = omega (arith, same_size); put = F.put; inside = F.inside; room = F.room }
 
-    pub hungry : 32768 ≤ length out - w → (x : Read) → x ≡ read_at s at → ((r : Record) (k : ℕ) → x ≡ Whole r k → ⊥)
-        → FedBy s from p₀ out₀ p out (record { used = at; wrote = w; stop = Hungry })
-    hungry h x e o = record { text = F.text; takes = F.takes; ends = record { wants = subst Wants e (wants x o); room = omega (arith, same_size) }; put = F.put; inside = F.inside; room = F.room }
-      where
-        wants : (x : Read) → ((r : Record) (k : ℕ) → x ≡ Whole r k → ⊥) → Wants x
-        wants (Whole r next) o = absurd (o r next refl)
-        wants Cut o = tt
-        wants End o = tt
-
     module _ (h : 32768 ≤ length out - w) {what : Record} {next : ℕ} (e : read_at s at ≡ Whole what next)
         {p' : List Float} {out' : List ℕ} {w' : ℕ} {going : Bool} (q : Stepped what p out w p' out' w' going) where
       roomy : w' ≤ length out₀
