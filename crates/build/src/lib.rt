@@ -153,6 +153,7 @@ fn put_link(links: &mut [u32], start: u32, end: u32, left: u32, right: u32)
 
 // ---- the recursion
 
+// Kept: three slices and no struct of them, here and above: C lends them so, and each half is cut from them anew.
 // The subtree over a part, from the front of the two node slices on: the parent, the left subtree, the right subtree.
 // Its first node is numbered `node`, its part starts at `start`. Returns how many nodes it has. The part's count falls.
 fn build_recursive(

@@ -155,6 +155,7 @@ pub fn print_all(
     if points.len() >= 0x1_0000_0000 {
         return Ok(at);
     }
+    // Kept: where a map starts is known once the one before it is read.
     while at + 68 <= text.len() {
         let Some(next) = print_map(rt, text, at, points, indices, boxes, links)? else {
             return Ok(at);

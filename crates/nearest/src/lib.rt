@@ -13,6 +13,7 @@ use search::{Best, Damage, Query};
 use tree::Tree;
 
 /// A hit with its index and its distance; no point at all; or a refusal.
+// Kept: one enum of the three cases that the rules of the project name, and no `Result<Option<..>, Refusal>`.
 #[derive(Clone, Copy, Debug, PartialEq)]
 pub enum Nearest {
     Hit(u32, f64),

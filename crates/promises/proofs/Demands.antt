@@ -1,4 +1,4 @@
--- The demands on the whole. A tree may be trusted where our own build made it, or where the check accepted it, whoever made
+-- What a tree may be trusted for. A tree may be trusted where our own build made it, or where the check accepted it, whoever made
 -- it; either way it is accepted, and over it each query answers as the plain scan of the points, and never by 9.
 --   Trusted t            our build answered that it built t; or the check answered that it accepts t
 --   trusted_accepted     so t is accepted

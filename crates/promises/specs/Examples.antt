@@ -1,4 +1,4 @@
--- The worked examples that are proved, P1 to P10 (P10 has two roots), in one table with one statement.
+-- The worked examples that are proved, in one table with one statement.
 --   Example        an input of a query, of the labels or of the root, and what it comes to
 --   Holds e        the definitions say so: the scans, the labels' definition, the root's
 --   Each es        every example of a list holds

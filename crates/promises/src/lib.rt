@@ -1,2 +1,2 @@
-// The demands on the whole, and 01's worked examples, as theorems about the definitions. No code of its own.
+//! What a tree may be trusted for, and the worked examples, as theorems about the definitions. No code of its own.
 #![tactic(auto)]

@@ -22,6 +22,7 @@ pub enum Record {
 }
 
 /// What stands at a place: a whole record and the place past it, the start of one, or nothing.
+// Kept: three cases; `Result<Option<(Record, usize)>, Cut>` needs two patterns at each use.
 #[derive(Clone, Copy, Debug, PartialEq)]
 pub enum Read {
     Whole(Record, usize),

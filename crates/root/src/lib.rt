@@ -82,6 +82,7 @@ fn cut_root(a: u64, first: u64) -> Cut
 {
     let mut g = first;
     let mut square = g * g;
+    // Kept: both loops search a number, and make no turn where the guess is right.
     'too_large: while square > a {
         g -= 1;
         square = g * g;

@@ -46,6 +46,7 @@ pub const LINKS: usize = 4 * MAX_NODES;
 const LONGEST: usize = 32768;
 
 /// Why no further record was taken.
+// Kept: three cases, each with its own line in the contract.
 #[derive(Clone, Copy, Debug, PartialEq, Eq)]
 pub enum Stop {
     /// The rest of the input is no whole record.
@@ -65,6 +66,7 @@ pub struct Fed {
 }
 
 /// After a whole stream: where its lines end.
+// Kept: three cases; of a `Result` one case would be no error, and still not all lines.
 #[derive(Clone, Copy, Debug, PartialEq, Eq)]
 pub enum Printed {
     /// They are all there.
@@ -356,6 +358,7 @@ pub fn feed(input: &[u8], from: usize, map: &mut Map, out: &mut [u8]) -> Fed
 {
     let mut lines = Writer::new(out, 0);
     let mut used = from;
+    // Kept: where a record starts is known once the one before it is read.
     while lines.out.len() - lines.at >= LONGEST {
         let Read::Whole(what, next) = records::read_at(input, used) else {
             return Fed {

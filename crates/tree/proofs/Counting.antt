@@ -1,4 +1,4 @@
--- N(c) unfolds as 01 says it: at most a leaf's points are one node, more are a node and the two halves. The depth to
+-- N(c) unfolds so: at most a leaf's points are one node, more are a node and the two halves. The depth to
 -- which it is worked out makes no difference once it is enough; and there are fewer nodes than twice the points.
 -- By induction on the depth. Assumes nothing.
 use mathlib.Core.Path.{◌≡◌, refl, sym, ◌∙◌, ap}

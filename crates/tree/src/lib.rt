@@ -21,6 +21,7 @@ use std::marker::Model;
 pub const MAX_POINTS: usize = 1_048_576;
 
 /// What a node is: a leaf, a branch with its two children, or damage.
+// Kept: one enum of the three cases that the rules of the project name, and no `Result` with an error.
 #[derive(Clone, Copy, Debug, PartialEq, Eq)]
 pub enum Kind {
     Leaf,
@@ -106,7 +107,7 @@ impl<'a> Model for Tree<'a> {
 fn float_at(s: &[f64], i: usize) -> f64
     ensures { result ≡ get_or s.now i nan }
 {
-    if i < s.len() { s[i] } else { 0.0 / 0.0 }
+    if i < s.len() { s[i] } else { f64::NAN }
 }
 
 // What its children make of a node over start to end.
