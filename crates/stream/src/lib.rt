@@ -406,7 +406,8 @@ pub fn print_all(
         Stop::Full => Printed::Full(fed.wrote),
         Stop::Done => Printed::Whole(fed.wrote),
         Stop::Hungry => {
-            if fed.used < input.len() {
+            let is_cut = fed.used < input.len();
+            if is_cut {
                 let mut lines = Writer::new(out, fed.wrote);
                 put_error(Refusal::UnknownRecord, &mut lines);
                 return Printed::Whole(lines.at);

@@ -1,5 +1,5 @@
 -- `serve::Input::refill` meets its contract: what was read comes after what waited. Assumes nothing.
-use Rattle.std.proofs.Common.{◌≤◌, ◌<◌, ◌∙◌, List, ℕ, ◌++◌, length, take, ap, sym, subst, arith, rules, ◌-◌}
+use Rattle.std.proofs.Common.{◌<◌, ◌∙◌, List, ℕ, ◌++◌, length, take, ap, arith, rules, ◌-◌}
 use lib.Seq.{length-take-le}
 use Rattle.serve.proofs.Waiting.{held-length, refilled}
 use Rattle.serve.proofs.Input.refill.Goals as goal
