@@ -20,6 +20,7 @@ use Rattle.stream.specs.Feeding as feeding
 use Rattle.stream.specs.Feeding.{Ends, on, FedBy}
 use Rattle.stream.proofs.Pieces.{joined-on, joined_off}
 use Rattle.stream.proofs.Printing.{wants-cut, over-at, cut_at}
+use Rattle.serve.specs.Waiting.{longest_record}
 use Rattle.serve.specs.Serving.{cut_line, tail, Waits}
 
 put-front : (before text now : List ℕ) (next : ℕ) → Put before 0 text now next → next ≤ length before → take next now ≡ text
@@ -66,10 +67,10 @@ module _ (s : List ℕ) (p : List Float) (out : List ℕ) {p' : List Float} {out
   rest_is : length (drop f.used s) ≡ length s - f.used
   rest_is = length-drop f.used s
 
-  short : f.stop ≡ Hungry → length (drop f.used s) < 32
+  short : f.stop ≡ Hungry → length (drop f.used s) < longest_record
   short e = go (ltb f.used (length s)) refl
     where
-      go : (b : Bool) → ltb f.used (length s) ≡ b → length (drop f.used s) < 32
+      go : (b : Bool) → ltb f.used (length s) ≡ b → length (drop f.used s) < longest_record
       go true g =
           let d : leb (body_of (get_or s f.used 0)) (length s - (f.used + 1)) ≡ false =
           wants-cut (ltb f.used (length s)) _ (record_at s (get_or s f.used 0) (f.used + 1)) (f.used + 1 + body_of (get_or s f.used 0)) g (wants e).wants in

@@ -153,6 +153,7 @@ impl<'a> Map<'a> {
     {
         if !self.fresh {
             let end = 2 * self.count;
+            // Kept: the points as `&mut`; a `&` into one field beside `&mut`s of others is not covered by the check yet.
             grow(
                 &mut self.points[..end],
                 self.indices,
