@@ -10,45 +10,21 @@ use lib.Ieee.{Float}
 use lib.ListN.{get_or}
 use Rattle.std.specs.Prelude.{◌↔◌, Result, Ok, Err, IsOk}
 use Rattle.refusal.specs.declared.Refusal.{Refusal}
-use Rattle.refusal.specs.declared.Refusal.TheVariants.{OddCoordinates, TooManyPoints, PointNotFinite, PlaceNotFinite, RadiusNotValid, IndicesTooShort, NodesTooShort, NoRoom, DamagedTree, UnknownRecord}
+use Rattle.refusal.proofs.Same.{done-one}
 use Rattle.refusal.specs.Numbers.{Told, number, detail, refused, done}
 use Rattle.tree.specs.Points.{size, AllFinite, FirstBad}
 use Rattle.tree.specs.Accepted.{Tree, Accepted}
 use Rattle.tree.proofs.NotFinite.{first_bad_not, first_bad_unique, finite_at_of_all}
 use Rattle.accept.specs.Answer.{Due, sound, odd, many, not_finite, not_accepted, Answers}
 
+false_not_true : ◌≡◌ {A = Bool} false true → ⊥
+false_not_true e = cc
+
 parity : (a : ℕ) → a ≡ 1 → a ≡ 0 → ⊥
 parity a g h = omega arith
 
 bad_not_all : (points : List Float) (i : ℕ) → i < size points → FirstBad points i → AllFinite points → ⊥
 bad_not_all points i h F A = first_bad_not points i (finite_at_of_all points i A h) (F.there h)
-
--- ---- the number and the detail tell which refusal it is
-from_numbers : ℕ → ℕ → Refusal
-from_numbers n d =
-    get_or (UnknownRecord ∷ OddCoordinates ∷ TooManyPoints ∷ PointNotFinite d ∷ PlaceNotFinite ∷ RadiusNotValid ∷ IndicesTooShort d ∷ NodesTooShort d ∷ NoRoom d ∷ DamagedTree ∷ []) n UnknownRecord
-
-same_refusal : (r : Refusal) → from_numbers (number r) (detail r) ≡ r
-unfolding from_numbers
-same_refusal OddCoordinates = refl
-same_refusal TooManyPoints = refl
-same_refusal (PointNotFinite i) = refl
-same_refusal PlaceNotFinite = refl
-same_refusal RadiusNotValid = refl
-same_refusal (IndicesTooShort n) = refl
-same_refusal (NodesTooShort n) = refl
-same_refusal (NoRoom n) = refl
-same_refusal DamagedTree = refl
-same_refusal UnknownRecord = refl
-
-false_not_true : ◌≡◌ {A = Bool} false true → ⊥
-false_not_true e = cc
-
-pub done_inj : (r s : Result Unit Refusal) → done r ≡ done s → r ≡ s
-done_inj (Ok u) (Ok v) e = refl
-done_inj (Ok u) (Err s) e = absurd (false_not_true (sym (ap (λ (a : Told). a.given) e)))
-done_inj (Err r) (Ok u) e = absurd (false_not_true (ap (λ (a : Told). a.given) e))
-done_inj (Err r) (Err s) e = ap Err (sym (same_refusal r) ∙ ap (λ (a : Told). from_numbers a.number a.detail) e ∙ same_refusal s)
 
 module _ (t : Tree) where
   pub due_unique : {a b : Told} → Due t a → Due t b → a ≡ b
@@ -86,7 +62,7 @@ module _ (t : Tree) where
   given-only (not_accepted a b c d) e = absurd (false_not_true e)
 
   pub answers_unique : (r s : Result Unit Refusal) → Answers t r → Answers t s → r ≡ s
-  answers_unique r s h k = done_inj r s (due_unique h k)
+  answers_unique r s h k = done-one r s (due_unique h k)
 
   pub answer_of_accepted : (r : Result Unit Refusal) → Answers t r → Accepted t → r ≡ Ok tt
   answer_of_accepted r h a = answers_unique r (Ok tt) h (sound a)

@@ -1,6 +1,5 @@
 -- Laws that the function proofs and the layers above cite.
 pub mod Weave
-pub mod Rows
 pub mod Boxes
 pub mod Plain
 pub mod Parts

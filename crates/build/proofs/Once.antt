@@ -17,7 +17,6 @@ use Rattle.tree.proofs.NotFinite.{first_bad_not, first_bad_unique, finite_at_of_
 use Rattle.std.specs.Prelude.{Result, Ok, Err}
 use Rattle.refusal.specs.Numbers.{Told, given, refused, told, number, detail}
 use Rattle.refusal.specs.declared.Refusal.{Refusal}
-use Rattle.refusal.specs.declared.Refusal.TheVariants.{OddCoordinates, TooManyPoints, PointNotFinite, PlaceNotFinite, RadiusNotValid, IndicesTooShort, NodesTooShort, NoRoom, DamagedTree, UnknownRecord}
 use Rattle.build.specs.Built.{needed, Built}
 use Rattle.build.specs.Outcome.{Given, Due, odd, many, not_finite, few_indices, few_nodes, allowed, Outcome}
 use Rattle.build.specs.Agree.{Held, Agree}
@@ -74,33 +73,6 @@ module _ (ls : ℕ) (points : List Float) (i b k : ℕ) where
   due-one (allowed g) (few_indices u h) = absurd (not-le_of_lt h g.room)
   due-one (allowed g) (few_nodes u h s) = absurd (short g s)
   due-one (allowed g) (allowed h) = refl
-
--- two answers that tell the same are the same: number and detail give back the refusal
-refusal_of : ℕ → ℕ → Refusal
-refusal_of n d =
-    cond (eqb n 1) OddCoordinates (cond (eqb n 2) TooManyPoints (cond (eqb n 3) (PointNotFinite d) (cond (eqb n 4) PlaceNotFinite (cond (eqb n 5) RadiusNotValid
-    (cond (eqb n 6) (IndicesTooShort d) (cond (eqb n 7) (NodesTooShort d) (cond (eqb n 8) (NoRoom d) (cond (eqb n 9) DamagedTree UnknownRecord))))))))
-
-same_refusal : (r : Refusal) → refusal_of (number r) (detail r) ≡ r
-unfolding refusal_of
-same_refusal OddCoordinates = refl
-same_refusal TooManyPoints = refl
-same_refusal (PointNotFinite i) = refl
-same_refusal PlaceNotFinite = refl
-same_refusal RadiusNotValid = refl
-same_refusal (IndicesTooShort n) = refl
-same_refusal (NodesTooShort n) = refl
-same_refusal (NoRoom n) = refl
-same_refusal DamagedTree = refl
-same_refusal UnknownRecord = refl
-
-pub told-one : (r s : Result ℕ Refusal) → told r ≡ told s → r ≡ s
-told-one (Ok k) (Ok m) e = ap (λ (a : Told). Ok a.count) e
-told-one (Ok k) (Err s) e = absurd (true_false (ap (λ (a : Told). a.given) e))
-told-one (Err r) (Ok m) e = absurd (true_false (sym (ap (λ (a : Told). a.given) e)))
-told-one (Err r) (Err s) e =
-    let p : r ≡ s = sym (same_refusal r) ∙ ap (λ (a : Told). refusal_of a.number a.detail) e ∙ same_refusal s in
-    ap (λ (x : Refusal). Err x) p
 
 module _ (ls : ℕ) (t₀ : Tree) where
   pub outcome-one : (a c : Told) (t u : Tree) → Outcome ls t₀ a t → Outcome ls t₀ c u → a ≡ c

@@ -19,9 +19,6 @@ use Rattle.select.specs.Parts.{Under}
 use Rattle.build.specs.Built.{Lower}
 use Rattle.build.specs.Steps.{Ready}
 
-pub ready-fit : (points : List Float) (part : List ℕ) → Ready points part → Fit points part
-ready-fit points part r = record { all_finite = r.all_finite; within = r.within }
-
 pub ready-same : (points : List Float) (xs ys : List ℕ) → Same xs ys → length xs ≡ length ys → Ready points ys → Ready points xs
 ready-same points xs ys p e r = record { all_finite = r.all_finite; limit = r.limit; within = λ v h. r.within v (from p v h); once = λ v. omega (arith, p.as_often v, r.once v); some = omega (arith, r.some) }
 

@@ -6,12 +6,12 @@ use mathlib.Core.Logic.{◌⊎◌, inl, inr, ⊎_elim}
 use mathlib.Core.Bool.{Bool, true, false, not, cond, ◌&&◌, ◌||◌}
 use mathlib.Core.List.{List, [], ◌∷◌, ◌++◌}
 use Prim.Native.Nat.{ℕ, ◌*◌, ◌+◌, ◌≤◌, ◌<◌}
-use native.Mathlib.Nat.{le_of_eq, le_of_lt, eq-or-lt_of_le}
+use native.Mathlib.Nat.{le_of_eq, le_of_lt}
 use native.Mathlib.Numerals.{add-one}
 use native.Mathlib.Omega.{arith}
 use lib.IntN.{ℤ, pos}
 use lib.ListN.{get_or, length, take}
-use lib.Seq.{take_all, take-suc}
+use lib.Seq.{take-suc}
 use lib.Dec.{T, ltb, eqb, eqb→eq, lit<}
 use lib.Ieee.{Float, nan, inf, fin, up, down, binary64, fits, lt, le, eq, to_bits}
 use lib.Ieee.Fits.{and_l, and_r}
@@ -127,11 +127,6 @@ module _ (points : List Float) (part : List ℕ) (R : Ready points part) where
       y = plain_more points 1 part y0 y1 y0' y1' k R (lit< tt) S.y h c d;
     }
 
-    pub looked_all : (cx cy : Float) → length part ≤ k → PlainBox points part (record { cx = cx; cy = cy; min_x = x0; max_x = x1; min_y = y0; max_y = y1 })
-    looked_all cx cy h =
-        let e : take k part ≡ part = take_all k part h in
-        record { x = subst (λ (l : List ℕ). Plain points 0 l x0 x1) e S.x; y = subst (λ (l : List ℕ). Plain points 1 l y0 y1) e S.y }
-
 -- ---- the two orders
 abbrev plus_zero : ℕ
 plus_zero = 0
@@ -193,9 +188,6 @@ abbrev pub Missed : List Float → ℕ → List ℕ → ℕ → ℕ → Type 0
 Missed points axis part sought k = (i : ℕ) → i < k → to_bits binary64 (coord points axis (get_or part i 0)) ≡ sought → ⊥
 
 module _ (points : List Float) (axis : ℕ) (part : List ℕ) (sought k : ℕ) (M : Missed points axis part sought k) where
-  pub missed_more : (to_bits binary64 (coord points axis (get_or part k 0)) ≡ sought → ⊥) → Missed points axis part sought (k + 1)
-  missed_more n i h = let l : i ≤ k = omega arith in ⊎_elim (λ (e : i ≡ k). rw e n) (M i) (eq-or-lt_of_le l)
-
   pub missed_all : length part ≤ k → (v : ℕ) → v ∈ part → to_bits binary64 (coord points axis v) ≡ sought → ⊥
   missed_all h v g e = let p = place v part g in M p.at (omega (arith, p.inside)) (rw p.is e)
 

@@ -38,14 +38,6 @@ module _ (points : List Float) (ls i b k : ℕ) (L : Given ls points i b k) wher
         place_fits = omega (arith, L.usable.in_limit);
       }
 
-pub whole-none : (ls : ℕ) (t : Tree) → count t ≡ 0 → Built ls t t
-whole-none ls t e = record {
-  points = refl;
-  each = rw e (each_none t.indices);
-  root = λ h. absurd (lt_irrefl 0 (omega arith));
-  indices_past = refl;
-  boxes_past = refl;
-  links_past = refl;
 }
 
 -- from numbered indices xs, and what the recursion leaves of them

@@ -14,12 +14,13 @@ fn main(rt: HostRuntime) -> std::io::Result<()> {
     let mut indices = [0u32; 512];
     let mut boxes = [0.0; 1536];
     let mut links = [0u32; 1024];
-    maps::print_all(
+    let _ = maps::print_all(
         &rt,
         &text[..n],
         &mut points,
         &mut indices,
         &mut boxes,
         &mut links,
-    )
+    )?;
+    Ok(())
 }

@@ -140,7 +140,7 @@ fn print_map(
     Ok(Some(next))
 }
 
-// Each map in turn, up to one that is cut.
+// Each map in turn, up to one that is cut. Returns how far the text was read.
 pub fn print_all(
     rt: &impl Print,
     text: &[u8],
@@ -148,15 +148,18 @@ pub fn print_all(
     indices: &mut [u32],
     boxes: &mut [f64],
     links: &mut [u32],
-) -> io::Result<()>
-    requires { length points.old < 2 ^ 32 }
+) -> io::Result<usize>
+    ensures { IfOk result (λ next. next ≤ length text.now) }
 {
     let mut at = 0;
+    if points.len() >= 0x1_0000_0000 {
+        return Ok(at);
+    }
     while at + 68 <= text.len() {
         let Some(next) = print_map(rt, text, at, points, indices, boxes, links)? else {
-            return Ok(());
+            return Ok(at);
         };
         at = next;
     }
-    Ok(())
+    Ok(at)
 }

@@ -1,3 +1,2 @@
--- The law by which each flattening is shown, and that a call has one outcome.
-pub mod Flattening
+-- That a call has one outcome.
 pub mod Once

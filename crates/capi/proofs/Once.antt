@@ -14,8 +14,9 @@ use lib.Ieee.{Float, binary64, of_bits, fits}
 use Rattle.distance.specs.declared.Coord.{Coord}
 use Rattle.tree.specs.Accepted.{Tree}
 use Rattle.accept.proofs.Decides as check
+use Rattle.refusal.specs.Numbers as code
+use Rattle.refusal.proofs.Same as same
 use Rattle.build.specs.Agree as build
-use Rattle.build.specs.Outcome as build-told
 use Rattle.build.proofs.Once as build-once
 use Rattle.dbscan.specs.Outcome as label
 use Rattle.dbscan.proofs.Once as label-once
@@ -87,16 +88,16 @@ pub builds_one : {leaf_size : ℕ} {t₀ t u : Tree} {number detail number' deta
     → Builds leaf_size t₀ number detail t → Builds leaf_size t₀ number' detail' u
     → ((number ≡ number') × (detail ≡ detail')) × ((t ≡ u) ⊎ build.Agree leaf_size t u)
 builds_one {leaf_size} {t₀} {t} {u} h r s = (
-  flats_one (λ a b p q. build-once.told-one a b (build-once.outcome-one leaf_size t₀ (build-told.told a) (build-told.told b) t u p q)) r s,
-  build-once.outcome_agree leaf_size t₀ (build-told.told r.answer) (build-told.told s.answer) t u h r.promised s.promised,
+  flats_one (λ a b p q. same.told-one a b (build-once.outcome-one leaf_size t₀ (code.told a) (code.told b) t u p q)) r s,
+  build-once.outcome_agree leaf_size t₀ (code.told r.answer) (code.told s.answer) t u h r.promised s.promised,
 )
 
 pub labels-one : {epsilon : Float} {m : ℕ} {s₀ s u : label.Slices} {number detail number' detail' : ℕ} → build.Held s₀.tree.points
     → Labels epsilon m s₀ number detail s → Labels epsilon m s₀ number' detail' u
     → ((number ≡ number') × (detail ≡ detail')) × (s.labels ≡ u.labels) × (s.work ≡ u.work) × ((s.tree ≡ u.tree) ⊎ build.Agree label.leaf_size s.tree u.tree)
 labels-one {epsilon} {m} {s₀} {s} {u} h r w =
-    let one = label-once.outcome-one epsilon m s₀ (label.told r.answer) (label.told w.answer) s u h r.promised w.promised in (
-      flats_one (λ a b p q. label-once.told-one a b (label-once.outcome-one epsilon m s₀ (label.told a) (label.told b) s u h p q).told_is) r w,
+    let one = label-once.outcome-one epsilon m s₀ (code.done r.answer) (code.done w.answer) s u h r.promised w.promised in (
+      flats_one (λ a b p q. same.done-one a b (label-once.outcome-one epsilon m s₀ (code.done a) (code.done b) s u h p q).told_is) r w,
       one.labels_are,
       one.work_is,
       one.tree_is,

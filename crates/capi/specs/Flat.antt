@@ -40,7 +40,7 @@ pub record Flat {A : Type 0} (P : A → Type 0) (number_of second_of : A → ℕ
   pub second_is : second ≡ second_of answer
 
 abbrev pub Checks : Tree → ℕ → ℕ → Type 0
-Checks t number detail = Flat (check.Answers t) (λ a. (check.told a).number) (λ a. (check.told a).detail) number detail
+Checks t number detail = Flat (check.Answers t) (λ a. (code.done a).number) (λ a. (code.done a).detail) number detail
 
 abbrev pub cell : {A : Type 0} → ℕ → A → List A → A → A
 cell number zero [] old = cond (eqb number 9) zero old

@@ -44,9 +44,6 @@ module _ (epsilon : Float) (m : ℕ) (t₀ : Tree) (l₀ w₀ : List ℕ) where
   abbrev Dues : Told → Type 0
   Dues a = Due t₀.points epsilon (length t₀.indices) (length t₀.boxes) (length t₀.links) (length l₀) (length w₀) a
 
-  pub ends-refused : (w : Refusal) → Dues (done (Err w)) → Outcome epsilon m s₀ (done (Err w)) s₀
-  ends-refused w d = record { due = d; answers = λ h. absurd (true_false (sym h)); kept = λ h. refl }
-
   module _ (due : Dues labelled) where
     pub ready : Ready t₀.points epsilon (length t₀.indices) (length t₀.boxes) (length t₀.links) (length l₀) (length w₀)
     ready = due-ready t₀.points epsilon (length t₀.indices) (length t₀.boxes) (length t₀.links) (length l₀) (length w₀) due
@@ -83,13 +80,3 @@ module _ (epsilon : Float) (m : ℕ) (t₀ : Tree) (l₀ w₀ : List ℕ) where
             });
             asked = busy_asked n m q;
           }
-
-      pub ends_labelled : (w l : List ℕ) → Ran (near t₀.points epsilon) n m w l → Outcome epsilon m s₀ labelled (slices t (l ++ drop n l₀) (w ++ drop (2 * n) w₀))
-      ends_labelled w l R =
-          outcome (slices t (l ++ drop n l₀) (w ++ drop (2 * n) w₀))
-          (record {
-            labels_are = subst (Labelled (near t₀.points epsilon) n m) (sym (take_at l (drop n l₀) n R.labels.count)) R.labels;
-            labels_past = drop_at l (drop n l₀) n R.labels.count;
-            if_quiet = λ h. absurd (true_false (sym h ∙ q));
-            if_busy = λ h. record { tree_is = P.built; work_is = ap (λ (z : List ℕ). z ++ drop (2 * n) w₀) R.cleared };
-          })

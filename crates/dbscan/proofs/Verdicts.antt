@@ -20,48 +20,6 @@ use Rattle.refusal.specs.declared.Refusal.{Refusal}
 use Rattle.dbscan.specs.Outcome.{labelled, leaf_size, Due}
 use Rattle.dbscan.specs.Growing.{Planted}
 
-module _ (points : List Float) (epsilon : Float) (i b k labels work : ℕ) where
-  abbrev Is : Told → Type 0
-  Is a = Due points epsilon i b k labels work a
-
-  -- what the build's own answer says
-  planned_as : (size_of : ℕ) (r : Result ℕ Refusal) (a : Told) → size_of ≡ 16 → told r ≡ a → build.Due size_of points i b k (told r) → build.Due leaf_size points i b k a
-  planned_as size_of r a e f d = subst (build.Due leaf_size points i b k) f (subst (λ (n : ℕ). build.Due n points i b k (told r)) e d)
-
-  module _ (size_of : ℕ) (r : Result ℕ Refusal) (e : size_of ≡ 16) (d : build.Due size_of points i b k (told r)) where
-    module _ (w : Refusal) (f : r ≡ Err w) where
-      plan : build.Due leaf_size points i b k (refused (number w) (detail w))
-      plan = planned_as size_of r (refused (number w) (detail w)) e (ap told f) d
-
-      pub due-first : number w < 5 → Is (refused (number w) (detail w))
-      due-first o = record { plan = refused (number w) (detail w); planned = plan; told_is = rw (lt-ltb (number w) 5 o) }
-
-      pub due_epsilon : 5 ≤ number w → le (of_bits binary64 0) epsilon ≡ false → Is (refused 5 0)
-      due_epsilon o g = record { plan = refused (number w) (detail w); planned = plan; told_is = rw (le-ltb (number w) 5 o, g) }
-
-      pub due-later : 5 ≤ number w → le (of_bits binary64 0) epsilon ≡ true → Is (refused (number w) (detail w))
-      due-later o g = record { plan = refused (number w) (detail w); planned = plan; told_is = rw (le-ltb (number w) 5 o, g) }
-
-    module _ (made : ℕ) (f : r ≡ Ok made) where
-      plan-made : build.Due leaf_size points i b k (given made)
-      plan-made = planned_as size_of r (given made) e (ap told f) d
-
-      -- so the points are in limit
-      pub due-few : size points ≤ 1_048_576
-      due-few = (given_of leaf_size points i b k (given made) refl plan-made).usable.in_limit
-
-      pub due_epsilon_only : le (of_bits binary64 0) epsilon ≡ false → Is (refused 5 0)
-      due_epsilon_only g = record { plan = given made; planned = plan-made; told_is = rw g }
-
-      pub due-few-labels : le (of_bits binary64 0) epsilon ≡ true → labels < size points → Is (refused 8 (size points))
-      due-few-labels g o = record { plan = given made; planned = plan-made; told_is = rw (g, lt-ltb labels (size points) o) }
-
-      pub due-few-work : le (of_bits binary64 0) epsilon ≡ true → size points ≤ labels → work < 2 * size points → Is (refused 8 (2 * size points))
-      due-few-work g o p = record { plan = given made; planned = plan-made; told_is = rw (g, le-ltb labels (size points) o, lt-ltb work (2 * size points) p) }
-
-      pub due-labelled : le (of_bits binary64 0) epsilon ≡ true → size points ≤ labels → 2 * size points ≤ work → Is labelled
-      due-labelled g o p = record { plan = given made; planned = plan-made; told_is = rw (g, le-ltb labels (size points) o, le-ltb work (2 * size points) p) }
-
 -- ---- the build
 pub planted : (size_of : ℕ) (a : Told) (t₀ t : Tree) → size_of ≡ 16 → Held t₀.points
     → build.Given leaf_size t₀.points (length t₀.indices) (length t₀.boxes) (length t₀.links) → build.Outcome size_of t₀ a t → Planted t₀ t

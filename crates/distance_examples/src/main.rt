@@ -1,33 +1,24 @@
-// Examples of the numbers, a line each: what is asked, and the answer's bits as 16 upper-case hex digits. The numbers
-// that come out at the edge of the format are here: a distance that overflows, one that is too small to be told from
-// zero, both zeros' keys, and the bound and the corner of a box beside the d2 of the places that they stand for.
+//! Examples of the numbers, a line each: what is asked, and the answer's bits as 16 upper-case hex digits. The numbers
+//! that come out at the edge of the format are here: a distance that overflows, one that is too small to be told from
+//! zero, both zeros' keys, and the bound and the corner of a box beside the d2 of the places that they stand for.
 #![tactic(auto)]
 
 use distance::{Bounds, Coord};
 use std::io;
-
-// The bits of x; one pattern for every NaN.
-fn bits(x: f64) -> u64 {
-    if x == x {
-        f64::to_bits(x)
-    } else {
-        0x7ff8_0000_0000_0000
-    }
-}
+use std::num::f64_to_bits_with_nan as bits;
 
 // The key of x; 0, which no number has, for a NaN.
 fn key(x: f64) -> u64 {
-    if x == x { distance::total_key(x) } else { 0 }
+    if x.is_nan() {
+        0
+    } else {
+        distance::total_key(x)
+    }
 }
 
 // Writes what was asked, a space, the 16 digits of v and the line's end.
 fn say(rt: &impl Print, asked: &str, v: u64) -> io::Result<()> {
     println!(rt; "{asked} {v:016X}")
-}
-
-// A test's answer as a number.
-fn truth(b: bool) -> u64 {
-    if b { 1 } else { 0 }
 }
 
 fn distances(rt: &impl Print) -> io::Result<()> {
@@ -55,8 +46,7 @@ fn distances(rt: &impl Print) -> io::Result<()> {
         rt,
         "d2 (3,4) (3,4)",
         bits(distance::coord_distance_sq(five, five)),
-    )?;
-    Ok(())
+    )
 }
 
 fn boxes(rt: &impl Print) -> io::Result<()> {
@@ -95,37 +85,32 @@ fn boxes(rt: &impl Print) -> io::Result<()> {
         rt,
         "d2 (-2,4) (2,5)",
         bits(distance::coord_distance_sq(q, corner)),
-    )?;
-    Ok(())
+    )
 }
 
 fn orders(rt: &impl Print) -> io::Result<()> {
-    let infinity = 1e308 * 10.0;
-    let nan = infinity - infinity;
-    say(rt, "key -infinity", key(-infinity))?;
+    say(rt, "key -infinity", key(-f64::INFINITY))?;
     say(rt, "key -1", key(-1.0))?;
     say(rt, "key -0", key(-0.0))?;
     say(rt, "key +0", key(0.0))?;
     say(rt, "key 1", key(1.0))?;
-    say(rt, "key infinity", key(infinity))?;
+    say(rt, "key infinity", key(f64::INFINITY))?;
     say(
         rt,
         "finite 1.7976931348623157e308",
-        truth(distance::is_finite(1.7976931348623157e308)),
+        u64::from(distance::is_finite(1.7976931348623157e308)),
     )?;
-    say(rt, "finite 5e-324", truth(distance::is_finite(5e-324)))?;
+    say(rt, "finite 5e-324", u64::from(distance::is_finite(5e-324)))?;
     say(
         rt,
         "finite -infinity",
-        truth(distance::is_finite(-infinity)),
+        u64::from(distance::is_finite(-f64::INFINITY)),
     )?;
-    say(rt, "finite NaN", truth(distance::is_finite(nan)))?;
-    Ok(())
+    say(rt, "finite NaN", u64::from(distance::is_finite(f64::NAN)))
 }
 
 fn main(rt: HostRuntime) -> io::Result<()> {
     distances(&rt)?;
     boxes(&rt)?;
-    orders(&rt)?;
-    Ok(())
+    orders(&rt)
 }

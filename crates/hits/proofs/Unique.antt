@@ -3,9 +3,8 @@
 -- the answer and of the two slices. Assumes nothing.
 use mathlib.Core.Path.{◌≡◌, sym, ap, ◌∙◌}
 use mathlib.Core.List.{List}
-use Prim.Native.Nat.{ℕ, min}
+use Prim.Native.Nat.{ℕ}
 use lib.Ieee.{Float}
-use lib.ListN.{length}
 use Rattle.distance.specs.declared.Coord.{Coord}
 use Rattle.std.proofs.Common.{Result}
 use Rattle.refusal.specs.declared.Refusal.{Refusal}
@@ -22,7 +21,7 @@ pub record SameRecords (r s : Result ℕ Refusal) (is js : List ℕ) (ds es : Li
 pub in_records_unique : (points : List Float) (q : Coord) (a : Reply) (is₀ : List ℕ) (ds₀ : List Float) (hs₀ : List Hit) (r s : Result ℕ Refusal) (is js : List ℕ) (ds es : List Float) (hs ks : List Hit) → Held ds → Held es
     → InRecords points q a is₀ ds₀ hs₀ r is ds hs → InRecords points q a is₀ ds₀ hs₀ s js es ks → SameRecords r s is js ds es hs ks
 in_records_unique points q a is₀ ds₀ hs₀ r s is js ds es hs ks f g A B =
-    let same = in_room_unique points q a (min (length hs₀) (min (length is₀) (length ds₀))) is₀ ds₀ r s is js ds es f g A.in_room B.in_room in
+    let same = in_room_unique points q a _ is₀ ds₀ r s is js ds es f g A.in_room B.in_room in
     record {
       same_slices = same;
       same_hits =

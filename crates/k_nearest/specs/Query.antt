@@ -2,10 +2,10 @@
 --   wanted k t          how many hits there are to be, and the most that are held: min(k, n). Once n are held, all are met
 --   over held k top d   of so many held, k are, and d is above top
 --   over_top k s d      the heap s is full, and d is above its first, the last of the k held
---   nearest_held k      of a query whose state is a heap of at most k points
---   none_held           of a query that holds nothing, and so passes over nothing
---   holding k points q  the query that finds the k nearest
---   probing             the query that meets damage, for want of room
+--   nearest_held k      the rules of the k nearest: the state is a heap of at most k points
+--   none_held           the rules of a query that holds nothing, and so passes over nothing
+--   holding k points q  the query of the k nearest as seen from q
+--   probing             the query that holds nothing, for want of room
 --   sorted s            what is held, by (d2, index)
 --   answer t q k room   what the query answers, with room for so many hits
 --   scan_answer points q k room  the same by a plain scan, with no tree

@@ -175,7 +175,7 @@ fn find(
         return zero_out(out_indices, out_distances);
     }
     heap::sort(near, d2s);
-    search::take_roots(d2s, k);
+    search::take_roots(d2s);
     Ok(k as u32)
 }
 

@@ -1,8 +1,7 @@
-// Labels of small maps, a line each: the map's name, its labels with `-` for noise, and after `|` the entry past them, which
-// was 9 before and stays; or `E` with the number and the detail of a refusal. What they must be was worked out by hand.
+//! Labels of small maps, a line each: the map's name, its labels with `-` for noise, and after `|` the entry past them, which
+//! was 9 before and stays; or `E` with the number and the detail of a refusal. What they must be was worked out by hand.
 #![tactic(auto)]
 
-use dbscan::Labelling;
 use labels::NOISE;
 use std::io;
 
@@ -14,21 +13,6 @@ fn say(rt: &impl Print, label: u32) -> io::Result<()> {
     }
 }
 
-// The first n entries, and the one past them.
-fn say_all(rt: &impl Print, labels: &[u32], n: usize) -> io::Result<()> {
-    for label in labels.iter().take(n) {
-        say(rt, *label)?;
-    }
-    if n > labels.len() {
-        return Ok(());
-    }
-    print!(rt; " |")?;
-    if n < labels.len() {
-        say(rt, labels[n])?;
-    }
-    Ok(())
-}
-
 fn run(
     rt: &impl Print,
     name: &str,
@@ -36,29 +20,30 @@ fn run(
     epsilon: f64,
     min_samples: u32,
 ) -> io::Result<()> {
-    let mut indices = [9u32; 40];
-    let mut boxes = [9.0; 60];
-    let mut links = [9u32; 40];
-    let mut labels = [9u32; 41];
-    let mut work = [9u32; 81];
+    let mut labels = [9; 41];
     let answer = dbscan::dbscan(
         points,
         epsilon,
         min_samples,
-        &mut indices,
-        &mut boxes,
-        &mut links,
+        &mut [9; 40],
+        &mut [9.0; 60],
+        &mut [9; 40],
         &mut labels,
-        &mut work,
+        &mut [9; 81],
     );
     print!(rt; "{name}")?;
     match answer {
-        Labelling::Labelled => say_all(rt, &labels, points.len() / 2)?,
-        Labelling::Refused(number, detail) => {
-            print!(rt; " E")?;
-            say(rt, number)?;
-            say(rt, detail)?;
+        Ok(()) => {
+            let n = points.len() / 2;
+            for label in labels.iter().take(n) {
+                say(rt, *label)?;
+            }
+            print!(rt; " |")?;
+            if let Some(past) = labels.get(n) {
+                say(rt, *past)?;
+            }
         }
+        Err(refusal) => print!(rt; " E {} {}", refusal.number(), refusal.detail())?,
     }
     println!(rt; "")
 }

@@ -88,14 +88,6 @@ written_all {s} {p} {v} {k} w h l =
     let e : k ≡ 16 = omega (arith, w.turns) in
     w.is ∙ ap (value s p) e ∙ rw (is_true (leb (p + 16) (length s)) (le→leb (p + 16) (length s) l))
 
-pub word_lt : (s : List ℕ) (p : ℕ) → word s p < 2 ^ 64
-unfolding word
-word_lt s p = by_case (leb (p + 16) (length s))
-  where
-    by_case : (b : Bool) → cond b (value s p 16) 0 < 2 ^ 64
-    by_case true = value-lt s p 16
-    by_case false = omega arith
-
 -- where the text ends before
 pub word-short : (s : List ℕ) (p : ℕ) → length s < p + 16 → 0 ≡ word s p
 unfolding word

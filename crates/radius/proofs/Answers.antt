@@ -5,14 +5,13 @@ use mathlib.Core.Logic.{inl, inr}
 use mathlib.Core.Bool.{Bool, true, false, ◌&&◌, cond}
 use mathlib.Core.List.{List, [], ◌++◌}
 use Prim.Native.Nat.{ℕ, zero, suc, ◌+◌, ◌%◌, ◌≤◌, ◌<◌}
-use native.Mathlib.Nat.{not-suc-le-zero}
 use native.Mathlib.Omega.{arith}
 use lib.Dec.{T, ltb, eqb}
 use lib.Ieee.{Float, binary64, of_bits, le}
 use lib.Ieee.Scale.{finite}
 use lib.ListN.{length, get_or, take, drop, replicate, length-append}
 use lib.Seq.{take_at, length-take-le}
-use borrow.Author.Tests.{eq-eqb, ne_eqb, ltb-true, ltb-false, eqb-false}
+use borrow.Author.Tests.{eq-eqb, ne_eqb, ltb-false, eqb-false}
 use Rattle.distance.specs.Distance.{sq}
 use Rattle.distance.specs.declared.Coord.{Coord}
 use Rattle.tree.specs.Points.{limit, size}
@@ -25,7 +24,7 @@ use Rattle.search.specs.Refusal.{refusal, Told, told}
 use Rattle.search.specs.Result.{Roots, zeros, float_zeros}
 use Rattle.std.proofs.Common.{Result, Ok, Err}
 use Rattle.std.proofs.lemmas.List.{append_assoc, take-append-drop, drop-append-le}
-use Rattle.refusal.specs.Numbers.{number, detail}
+use Rattle.refusal.specs.Numbers.{number}
 use Rattle.refusal.specs.declared.Refusal.{Refusal}
 use Rattle.refusal.specs.declared.Refusal.TheVariants.{OddCoordinates, TooManyPoints, PointNotFinite, PlaceNotFinite, RadiusNotValid, IndicesTooShort, NodesTooShort, NoRoom, DamagedTree, UnknownRecord}
 use Rattle.refusal.proofs.Same.{number-nonzero}
@@ -113,24 +112,9 @@ reply_proper t q radius = go (refusal t.points q) (refusal-low t.points q) (le (
     go zero h false none g = (omega arith, omega arith)
     go (suc k) h ok none g = subst Proper (sym (by-refused (suc k) ok none (reply_of g) (λ (z : suc k ≡ 0). omega arith))) (omega arith, omega arith)
 
--- ---- the answers that need no walk
+-- ---- the same reply
 pub answered_as : {a b : Reply} {room : ℕ} {is₀ is : List ℕ} {r : Result ℕ Refusal} → a ≡ b → Answered b room is₀ r is → Answered a room is₀ r is
 answered_as {a} {b} {room} {is₀} {is} {r} e A = subst (λ (x : Reply). Answered x room is₀ r is) (sym e) A
-
-pub answered-refused : (a : Reply) (room k : ℕ) (is : List ℕ) (r : Refusal) → a ≡ refuses k → k ≡ number r → detail r ≡ 0 → Answered a room is (Err r) is
-answered-refused a room k is r e h d =
-    rw e (record { told_is = ap (λ (x : ℕ). record { number = number r; detail = x }) d ∙ ap (λ (x : ℕ). record { number = x; detail = 0 }) (sym h); indices_are = refl })
-
-pub answered-none : (a : Reply) (room : ℕ) (is : List ℕ) → a ≡ finds [] → Answered a room is (Ok 0) is
-answered-none a room is e = rw e (record { told_is = go (ltb room 0) refl; indices_are = same (ltb room 0) })
-  where
-    go : (b : Bool) → ltb room 0 ≡ b → ◌≡◌ {A = Told} (record { number = 0; detail = 0 }) (record { number = cond b 8 0; detail = 0 })
-    go true x = absurd (not-suc-le-zero (ltb-true room 0 x))
-    go false x = refl
-
-    same : (b : Bool) → is ≡ cond b is is
-    same true = refl
-    same false = refl
 
 -- ---- over any tree a hit is a point
 abbrev pub Below : ℕ → List ℕ → Type 0

@@ -11,7 +11,7 @@ use lib.Dec.{ltb}
 use lib.Ieee.{Float, le}
 use lib.ListN.{length, set, take, drop, length-append, length-set}
 use lib.Seq.{take-set-le, take-suc-set, take_at, drop_at}
-use borrow.Author.Tests.{lt-ltb, le-ltb, ltb-true}
+use borrow.Author.Tests.{lt-ltb, le-ltb}
 use Rattle.std.proofs.Common.{Result, Ok, Err}
 use Rattle.distance.specs.declared.Coord.{Coord}
 use Rattle.refusal.specs.declared.Refusal.TheVariants.{NoRoom, DamagedTree}

@@ -199,7 +199,7 @@ fn set_distances(points: &[f64], from: Coord, hits: &[u32], out: &mut [f64])
         };
         out[k] = distance::coord_distance_sq(from, place);
     }
-    search::take_roots(out, hits.len());
+    search::take_roots(out);
 }
 
 /// Every point whose squared distance to the place is at most radius * radius, by rising index, with its distance; and how

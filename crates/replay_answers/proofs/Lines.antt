@@ -1,68 +1,19 @@
--- The lines of a text, counted as a walk from each line to the next meets them. Assumes nothing.
-use mathlib.Core.Path.{◌≡◌, refl, ap, ◌∙◌, subst}
-use mathlib.Core.Bool.{Bool, true, false, cond, ◌&&◌}
-use mathlib.Core.Logic.{◌⊎◌, inl, inr}
-use mathlib.Core.List.{List}
-use Prim.Native.Nat.{ℕ, zero, suc, ◌+◌, ◌-◌, ◌≤◌, ◌<◌}
-use native.Mathlib.Nat.{eq-or-lt_of_le, le_antisymm}
+-- The lines of a text, counted a place at a time. Assumes nothing.
+use Rattle.std.proofs.Common.{◌≡◌, ◌≢◌, refl, sym, ap, ◌∙◌, Bool, true, false, cond, List, ℕ, zero, suc, ◌+◌, ◌≤◌, ◌<◌, Option, Some, None, unwrap_or, IfSome, arith, get_or, length}
 use native.Mathlib.Numerals.{add-one}
-use native.Mathlib.Omega.{arith}
-use lib.Dec.{eqb}
-use lib.ListN.{length, get_or}
-use borrow.Author.Tests.{ne_eqb}
-use Rattle.replay_answers.specs.Lines.{begins, lines, NextLine, Tallied}
+use lib.Dec.{T, eqb, eqb→eq, eqb_refl}
+use lib.Ieee.Bits.{is_true}
+use mathlib.Core.Bool.{true≢false}
+use mathlib.Core.Path.{subst}
+use Rattle.replay_answers.specs.Lines.{begins, starts, lines, code, count_of, Tallied}
 use Rattle.replay_answers.specs.declared.answers.Tally.{Tally}
+use Rattle.replay_answers.specs.declared.recorded.Letter.{Letter}
+use Rattle.replay_answers.specs.declared.recorded.Letter.TheVariants.{Map, Nearest, KNearest, Radius, Labels}
 
-begins-next : (s : List ℕ) (i : ℕ) → begins s (i + 1) ≡ eqb (get_or s i 0) 10
-unfolding begins
-begins-next s i = rw (add-one i) refl
+lines-next : (s : List ℕ) (c n : ℕ) → lines s c (n + 1) ≡ lines s c n + cond (starts s c n) 1 0
+unfolding lines
+lines-next s c n = rw (add-one n) refl
 
-pub begins-first : (s : List ℕ) → begins s 0 ≡ true
-unfolding begins
-begins-first s = refl
-
--- ---- the next line: no line begins past p, up to i
-pub record Clear (s : List ℕ) (p i : ℕ) : Type 0 where
-  pub after : p ≤ i
-  pub within : i ≤ length s
-  pub none : (j : ℕ) → p < j → j ≤ i → begins s j ≡ false
-
-pub clear_none : (s : List ℕ) (p : ℕ) → p < length s → Clear s p p
-clear_none s p h = record { after = omega arith; within = omega arith; none = λ j l m. absurd (never j l m) }
-  where
-    never : (j : ℕ) → p < j → j ≤ p → ⊥
-    never j l m = omega arith
-
-module _ {s : List ℕ} {p i : ℕ} (w : Clear s p i) where
-  pub clear_next : i < length s → (get_or s i 0 ≡ 10 → ⊥) → Clear s p (i + 1)
-  clear_next h n = record { after = omega (arith, w.after); within = omega arith; none = λ j l m. here j l (eq-or-lt_of_le m) }
-    where
-      here : (j : ℕ) → p < j → (j ≡ i + 1) ⊎ (j < i + 1) → begins s j ≡ false
-      here j l (inl e) = rw (e, begins-next s i) (ne_eqb (get_or s i 0) 10 n)
-      here j l (inr m) = w.none j l (omega arith)
-
-  pub clear_found : i < length s → get_or s i 0 ≡ 10 → NextLine s p (i + 1)
-  clear_found h e =
-      record {
-        past = omega (arith, w.after);
-        within = omega arith;
-        none_between = λ j l m. w.none j l (omega arith);
-        here = λ m. begins-next s i ∙ ap (λ (x : ℕ). eqb x 10) e;
-      }
-
-  pub clear_end : p < length s → length s ≤ i → NextLine s p (length s)
-  clear_end h k =
-      record {
-        past = h;
-        within = omega arith;
-        none_between = λ j l m. w.none j l (omega arith);
-        here = λ m. absurd (never m);
-      }
-    where
-      never : length s < length s → ⊥
-      never m = omega arith
-
--- ---- counting
 at_most_one : (b : Bool) → cond b 1 0 ≤ 1
 at_most_one true = omega arith
 at_most_one false = omega arith
@@ -70,78 +21,64 @@ at_most_one false = omega arith
 pub lines-le : (s : List ℕ) (c n : ℕ) → lines s c n ≤ n
 unfolding lines
 lines-le s c zero = omega arith
-lines-le s c (suc n) = omega (arith, lines-le s c n, at_most_one (begins s n && eqb (get_or s n 0) c))
+lines-le s c (suc n) = omega (arith, lines-le s c n, at_most_one (starts s c n))
 
-lines-here : (s : List ℕ) (c n : ℕ) → begins s n ≡ true → lines s c n + cond (eqb (get_or s n 0) c) 1 0 ≡ lines s c (n + 1)
+-- before the first place nothing is counted
+pub tallied_first : {s : List ℕ} {t : Tally} → ((l : Letter) → count_of t l ≡ 0) → t.first_wrong ≡ None → Tallied s 0 t
 unfolding lines
-lines-here s c n e = rw (add-one n, e) refl
+tallied_first h f = record { counts = h; first_within = rw f tt; first_begins = rw f tt }
 
-lines_still : (s : List ℕ) (c n k : ℕ) → ((i : ℕ) → n ≤ i → i < n + k → begins s i ≡ false) → lines s c n ≡ lines s c (n + k)
-unfolding lines
-lines_still s c n zero h = let e : n + 0 ≡ n = omega arith in rw e refl
-lines_still s c n (suc k) h =
-    let e : n + suc k ≡ suc (n + k) = omega arith in
-    let f = lines_still s c n k (λ i l m. h i l (omega arith)) in
-    rw (e, h (n + k) (omega arith) (omega arith)) (omega (arith, f))
-
-lines-over : {s : List ℕ} {p r : ℕ} (c : ℕ) → NextLine s p r → lines s c (p + 1) ≡ lines s c r
-lines-over {s} {p} {r} c w =
-    let e : p + 1 + (r - (p + 1)) ≡ r = omega (arith, w.past) in
-    lines_still s c (p + 1) (r - (p + 1)) (λ i l m. w.none_between i (omega arith) (omega (arith, w.past))) ∙ ap (lines s c) e
-
--- ---- the tally
-pub tallied_none : (s : List ℕ) → Tallied s 0 (record { maps = 0; nearest = 0; k_nearest = 0; radius = 0; labels = 0; left = 0 })
-unfolding lines
-tallied_none s =
+-- no line of a letter that counts begins at n
+pub tallied_none : {s : List ℕ} {n : ℕ} {t : Tally} → Tallied s n t → ((l : Letter) → starts s (code l) n ≡ false) → Tallied s (n + 1) t
+tallied_none {s} {n} {t} w h =
     record {
-      maps_is = refl;
-      nearest_is = refl;
-      k_nearest_is = refl;
-      radius_is = refl;
-      labels_is = refl;
-      left_le = omega arith;
-      left_begins = λ h. absurd (never h);
+      counts = λ l. w.counts l ∙ sym (still l);
+      first_within = w.first_within;
+      first_begins = w.first_begins;
     }
   where
-    never : 0 < 0 → ⊥
-    never h = omega arith
+    still : (l : Letter) → lines s (code l) (n + 1) ≡ lines s (code l) n
+    still l = rw (lines-next s (code l) n, h l) (omega arith)
 
--- the line that begins at p
-pub tallied_here : {s : List ℕ} {p : ℕ} {t u : Tally} → p < length s → begins s p ≡ true → Tallied s p t → u.maps ≡ t.maps + cond (eqb (get_or s p 0) 77) 1 0 → u.nearest ≡ t.nearest + cond (eqb (get_or s p 0) 78) 1 0 → u.k_nearest ≡ t.k_nearest + cond (eqb (get_or s p 0) 75) 1 0 → u.radius ≡ t.radius + cond (eqb (get_or s p 0) 82) 1 0 → u.labels ≡ t.labels + cond (eqb (get_or s p 0) 76) 1 0 → (u.left ≡ t.left) ⊎ (u.left ≡ length s - p) → Tallied s (p + 1) u
-tallied_here {s} {p} {t} {u} h b w m n k r l e =
+-- a letter is known by its byte
+abbrev letter_of : ℕ → Letter
+letter_of c = cond (eqb c 77) Map (cond (eqb c 78) Nearest (cond (eqb c 75) KNearest (cond (eqb c 82) Radius Labels)))
+
+letter_of-code : (l : Letter) → letter_of (code l) ≡ l
+letter_of-code Map = refl
+letter_of-code Nearest = refl
+letter_of-code KNearest = refl
+letter_of-code Radius = refl
+letter_of-code Labels = refl
+
+code-injective : (l m : Letter) → code l ≡ code m → l ≡ m
+code-injective l m e = sym (letter_of-code l) ∙ ap letter_of e ∙ letter_of-code m
+
+-- one of the letter l does
+pub tallied_one : {s : List ℕ} {n : ℕ} {t u : Tally} (l : Letter) → Tallied s n t → begins s n ≡ true → get_or s n 0 ≡ code l → count_of u l ≡ count_of t l + 1 → ((m : Letter) → m ≢ l → count_of u m ≡ count_of t m) → u.first_wrong ≡ t.first_wrong → Tallied s (n + 1) u
+tallied_one {s} {n} {t} {u} l w b e one others f =
     record {
-      maps_is = plus 77 m w.maps_is;
-      nearest_is = plus 78 n w.nearest_is;
-      k_nearest_is = plus 75 k w.k_nearest_is;
-      radius_is = plus 82 r w.radius_is;
-      labels_is = plus 76 l w.labels_is;
-      left_le = small e;
-      left_begins = first e;
+      counts = λ m. more m (eqb (code l) (code m)) refl ∙ ap (λ (k : ℕ). k + cond (eqb (code l) (code m)) 1 0) (w.counts m) ∙ sym (here m);
+      first_within = rw f w.first_within;
+      first_begins = rw f w.first_begins;
     }
   where
-    plus : {x y : ℕ} (c : ℕ) → y ≡ x + cond (eqb (get_or s p 0) c) 1 0 → x ≡ lines s c p → y ≡ lines s c (p + 1)
-    plus {x} c f g = f ∙ ap (λ (z : ℕ). z + cond (eqb (get_or s p 0) c) 1 0) g ∙ lines-here s c p b
+    more : (m : Letter) (c : Bool) → eqb (code l) (code m) ≡ c → count_of u m ≡ count_of t m + cond (eqb (code l) (code m)) 1 0
+    more m true q = rw q (subst (λ (k : Letter). count_of u k ≡ count_of t k + 1) (code-injective l m (eqb→eq (code l) (code m) (subst T (sym q) tt))) one)
+    more m false q = rw q (others m (λ i. true≢false (sym (is_true (eqb (code l) (code m)) (rw i (eqb_refl (code l)))) ∙ q)) ∙ omega arith)
 
-    small : (u.left ≡ t.left) ⊎ (u.left ≡ length s - p) → u.left ≤ length s
-    small (inl f) = omega (arith, w.left_le)
-    small (inr f) = omega arith
+    here : (m : Letter) → lines s (code m) (n + 1) ≡ lines s (code m) n + cond (eqb (code l) (code m)) 1 0
+    here m = rw (lines-next s (code m) n, b, e) refl
 
-    first : (u.left ≡ t.left) ⊎ (u.left ≡ length s - p) → 0 < u.left → begins s (length s - u.left) ≡ true
-    first (inl f) g = ap (λ (z : ℕ). begins s (length s - z)) f ∙ w.left_begins (omega arith)
-    first (inr f) g = let d : length s - u.left ≡ p = omega arith in ap (begins s) d ∙ b
-
--- and on to the next
-pub tallied_over : {s : List ℕ} {p r : ℕ} {t : Tally} → NextLine s p r → Tallied s (p + 1) t → Tallied s r t
-tallied_over {s} {p} {r} {t} n w =
+-- and it came otherwise than recorded
+pub tallied_wrong : {s : List ℕ} {n : ℕ} {t u : Tally} → Tallied s (n + 1) t → n < length s → begins s n ≡ true → ((m : Letter) → count_of u m ≡ count_of t m) → u.first_wrong ≡ Some (unwrap_or t.first_wrong n) → Tallied s (n + 1) u
+tallied_wrong {s} {n} {t} {u} w lt b h f =
     record {
-      maps_is = w.maps_is ∙ lines-over 77 n;
-      nearest_is = w.nearest_is ∙ lines-over 78 n;
-      k_nearest_is = w.k_nearest_is ∙ lines-over 75 n;
-      radius_is = w.radius_is ∙ lines-over 82 n;
-      labels_is = w.labels_is ∙ lines-over 76 n;
-      left_le = w.left_le;
-      left_begins = w.left_begins;
+      counts = λ m. h m ∙ w.counts m;
+      first_within = rw f (either (λ k. k < length s) t.first_wrong w.first_within lt);
+      first_begins = rw f (either (λ k. begins s k ≡ true) t.first_wrong w.first_begins b);
     }
-
-pub tallied_all : {s : List ℕ} {p : ℕ} {t : Tally} → Tallied s p t → p ≤ length s → length s ≤ p → Tallied s (length s) t
-tallied_all {s} {p} {t} w h k = subst (λ (n : ℕ). Tallied s n t) (le_antisymm h k) w
+  where
+    either : (P : ℕ → Type 0) (o : Option ℕ) → IfSome o P → P n → P (unwrap_or o n)
+    either P None p q = q
+    either P (Some k) p q = p

@@ -9,10 +9,9 @@ use native.Mathlib.Decide.{dec_le}
 use native.Mathlib.Omega.{arith}
 use lib.IntN.{ℤ}
 use lib.Dec.{T, leb, ltb, eqb, leb→le, le→leb, eqb→eq, lt→ltb, not_T}
-use lib.Ieee.{Float, nan, inf, fin, binary64, up, down, odd, of_fields, of_bits, to_bits, is_nan, nan_bits, div, ne, fits}
+use lib.Ieee.{Float, nan, inf, fin, binary64, up, down, odd, of_fields, of_bits, to_bits, is_nan, nan_bits, fits}
 use lib.Ieee.Fits.{down_pos}
 use lib.Ieee.Bits.{is_true, is_false, cond_no, to_bits-of_bits, of_bits-to_bits, to_bits-lt, nan_bits_is, nan_bits_above}
-use lib.Ieee.Compare.{differs_from_itself, nan_differs}
 use lib.Ieee.Exact.{HasValue, odd_sign}
 use lib.Ieee.Positive.{positive, positive_of_value}
 use Rattle.root.specs.Root.{Root, Nearest, units, next, previous}
@@ -153,18 +152,12 @@ no-root b h n k = go (dec_le sign b)
         root-nan
 
 -- ---- by x and its pattern
-pub over_zero : div binary64 (of_bits binary64 0) (of_bits binary64 0) ≡ nan
-unfolding div of_bits
-over_zero = refl
+nan_written : of_bits binary64 0x7ff8_0000_0000_0000 ≡ nan
+unfolding of_bits
+nan_written = refl
 
-pub root-of_nan : (x : Float) → ne x x ≡ true → Root x nan
-root-of_nan x h = subst (λ (y : Float). Root y nan) (sym (differs_from_itself x (subst T (sym h) tt))) root-nan
-
-pub not_nan : (x : Float) → ne x x ≡ false → T (not (is_nan x))
-unfolding is_nan
-not_nan nan h = absurd (true≢false (sym nan_differs ∙ h))
-not_nan (inf s) h = tt
-not_nan (fin s m e) h = tt
+pub root-of_nan : (x : Float) → is_nan x ≡ true → Root x (of_bits binary64 0x7ff8_0000_0000_0000)
+root-of_nan x h = subst (λ (y : Float). Root y (of_bits binary64 0x7ff8_0000_0000_0000)) (sym (is_nan-nan x h)) (subst (Root nan) (sym nan_written) root-nan)
 
 -- the zeros and the infinity are their own roots
 own-zero : Root (of_bits binary64 0) (of_bits binary64 0)
@@ -195,8 +188,8 @@ module _ (x : Float) (f : T (fits binary64 x)) where
   pub root-positive : (c : ℕ) → 0 < to_bits binary64 x → to_bits binary64 x < infinity → RootBits (to_bits binary64 x) c → Root x (of_bits binary64 c)
   root-positive c n h t = subst (λ (y : Float). Root y (of_bits binary64 c)) (of_bits-to_bits binary64 x f) (root-at (to_bits binary64 x) c n h t)
 
-  pub root_none : (to_bits binary64 x ≡ sign → ⊥) → (to_bits binary64 x ≡ infinity → ⊥) → infinity ≤ to_bits binary64 x → Root x nan
-  root_none n m h = subst (λ (y : Float). Root y nan) (of_bits-to_bits binary64 x f) (no-root (to_bits binary64 x) (omega (arith, m)) n (to_bits-lt binary64 x f))
+  pub root_none : (to_bits binary64 x ≡ sign → ⊥) → (to_bits binary64 x ≡ infinity → ⊥) → infinity ≤ to_bits binary64 x → Root x (of_bits binary64 0x7ff8_0000_0000_0000)
+  root_none n m h = subst (Root x) (sym nan_written) (subst (λ (y : Float). Root y nan) (of_bits-to_bits binary64 x f) (no-root (to_bits binary64 x) (omega (arith, m)) n (to_bits-lt binary64 x f)))
 
 pub pattern_no-nan : (b : ℕ) → b < infinity → T (not (nan_bits binary64 b))
 pattern_no-nan b h = subst (λ (q : Bool). T (not q)) (sym (nan_bits_is binary64 b)) (no_nan (of_bits binary64 b) false (val b) (2 ^ 1074) (bits_value b h))

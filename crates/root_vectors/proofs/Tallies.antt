@@ -8,6 +8,7 @@ use Prim.Native.Nat.{ℕ, suc, ◌+◌, ◌*◌, ◌/◌, ◌≤◌, ◌<◌}
 use native.Mathlib.Nat.{eq-or-lt_of_le, le_antisymm}
 use native.Mathlib.Omega.{arith}
 use lib.ListN.{length}
+use Rattle.std.proofs.Common.{Option}
 use lib.Dec.{T, eqb, eqb→eq}
 use lib.Ieee.{Float, binary64, of_bits}
 use Rattle.patterns.specs.Digits.{word, IsPattern}
@@ -44,7 +45,7 @@ seen_differs {s} {agree} {i} w = record { some = omega (arith, w.some); every = 
     never : agree ≡ i + 1 → agree ≤ i → ⊥
     never e h = omega arith
 
-pub seen_all : {s : List ℕ} {agree i : ℕ} (first : ℕ) → Seen s agree i → i ≤ length s / 34 → length s / 34 ≤ i → Tallied s (record { lines = length s / 34; agree = agree; first = first })
+pub seen_all : {s : List ℕ} {agree i : ℕ} (first : Option ℕ) → Seen s agree i → i ≤ length s / 34 → length s / 34 ≤ i → Tallied s (record { lines = length s / 34; agree = agree; first = first })
 seen_all {s} {agree} {i} first w h k =
     let e : i ≡ length s / 34 = le_antisymm h k in
     let v = rw e at w in

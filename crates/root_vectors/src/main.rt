@@ -1,5 +1,5 @@
-// Runs IEEE vectors of the root. Standard input has them, a line each, as oracle/root_vectors.c writes them. Standard
-// output says in how many lines `root::square_root` gives what is expected, bit for bit, and the first where it does not.
+//! Runs IEEE vectors of the root. Standard input has them, a line each, as oracle/root_vectors.c writes them. Standard
+//! output says in how many lines `root::square_root` gives what is expected, bit for bit, and the first where it does not.
 #![tactic(auto)]
 
 mod vectors;
@@ -12,8 +12,8 @@ fn main(rt: HostRuntime) -> std::io::Result<()> {
     let n = io::read_full(STDIN_FILENO, &mut text);
     let t = vectors::run_all(&text[..n]);
     println!(rt; "{} of {} agree", t.agree, t.lines)?;
-    if t.first != 0 {
-        println!(rt; "the first that does not: line {}", t.first)?;
+    if let Some(first) = t.first {
+        println!(rt; "the first that does not: line {first}")?;
     }
     Ok(())
 }

@@ -26,20 +26,6 @@ module _ {A : Type 0} where
       ∙ get_or-append_seam p (get_or d n z) (drop (suc n) d) z
 
   -- ---- the same entry everywhere
-  replicate-length : (n : ℕ) (v : A) → length (replicate n v) ≡ n
-  replicate-length zero v = refl
-  replicate-length (suc n) v = ap suc (replicate-length n v)
-
-  replicate_more : (n : ℕ) (v : A) → replicate n v ++ (v ∷ []) ≡ replicate (n + 1) v
-  replicate_more n v = go n ∙ ap (λ (k : ℕ). replicate k v) (sym (add-one n))
-    where
-      go : (n : ℕ) → replicate n v ++ (v ∷ []) ≡ replicate (suc n) v
-      go zero = refl
-      go (suc n) = ap (λ (l : List A). v ∷ l) (go n)
-
-  pub same_more : (d : List A) (v : A) (n : ℕ) → n < length d → set (replicate n v ++ drop n d) n v ≡ replicate (n + 1) v ++ drop (n + 1) d
-  same_more d v n h = front-more (replicate n v) d v v n (replicate-length n v) h ∙ ap (λ (l : List A). l ++ drop (n + 1) d) (replicate_more n v)
-
   pub same-all : (d : List A) (v : A) (n : ℕ) → n ≡ length d → replicate n v ++ drop n d ≡ replicate (length d) v
   same-all d v n e =
       ap (λ (k : ℕ). replicate k v ++ drop k d) e

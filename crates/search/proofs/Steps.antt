@@ -24,17 +24,6 @@ pub outcome-more : {S : Type 0} (a b : ℕ) (w : Walk S) → outcome (more a b w
 outcome-more a b damage = refl
 outcome-more a b (done s n d) = refl
 
--- ---- a leaf, at its k-th entry
-module _ {S : Type 0} (n : ℕ) (f : S → ℕ → S) (c : ℕ) (s : S) (l : List ℕ) (k : ℕ) where
-  pub scan_in : k < length l → get_or l k 0 < n → outcome (scan n f c s (drop k l)) ≡ outcome (scan n f c (f s (get_or l k 0)) (drop (k + 1) l))
-  scan_in h g = rw (add-one, drop-cons l k 0 h, lt-ltb (get_or l k 0) n g) (outcome-more 0 c (scan n f c (f s (get_or l k 0)) (drop (suc k) l)))
-
-  pub scan-out : k < length l → n ≤ get_or l k 0 → outcome (scan n f c s (drop k l)) ≡ broken
-  scan-out h g = rw (drop-cons l k 0 h, le-ltb (get_or l k 0) n g)
-
-  pub scan-end : length l ≤ k → outcome (scan n f c s (drop k l)) ≡ got s
-  scan-end h = rw (drop_of_length-le l h)
-
 -- ---- one walk, and another
 then_found : {S : Type 0} (w : Walk S) (f : S → Walk S) (s : S) → got s ≡ outcome w → outcome (and_then w f) ≡ outcome (f s)
 then_found {S} damage f s h = let z : ◌≡◌ {A = ℕ} 0 1 = cc in absurd (omega arith)
@@ -118,8 +107,5 @@ module _ {S : Type 0} (t : Tree) (Q : Search S) (v a e : ℕ) (s : S) where
 
 -- ---- from node 0
 module _ {S : Type 0} (t : Tree) (Q : Search S) (s : S) where
-  pub no-indices : length t.indices < count t → broken ≡ outcome (walk_all t Q s)
-  no-indices h = rw (lt-ltb (length t.indices) (count t) h)
-
   pub from-root : (g : Got S) → count t ≤ length t.indices → Walks t Q 0 0 (count t) s g → g ≡ outcome (walk_all t Q s)
   from-root g h W = rw (le-ltb (length t.indices) (count t) h) (W (count t) (omega arith))

@@ -8,7 +8,7 @@ ghost use Rattle.distance.specs.Distance.{bound};
 ghost use Rattle.tree.specs.Node.{bounds};
 ghost use Rattle.tree.specs.Inner.{sound};
 ghost use Rattle.tree.specs.Accepted.{count};
-ghost use Rattle.tree.specs.Lent.{kind_of};
+ghost use Rattle.tree.specs.Lent.{node, kind_of};
 ghost use Rattle.search.specs.Order.{best, before, left_nearer, at};
 ghost use Rattle.search.specs.Turn.{in_turn, Turned, Shares, OneDamaged};
 ghost use Rattle.tree.specs.declared.Kind.TheVariants.{Branch};
@@ -136,18 +136,19 @@ fn in_turn(first: bool, left: Node, right: Node) -> Turn
     }
 }
 
-// The children of a branch, neither of them damage, in the order of the visit.
+// The children of a branch, neither of them damage, in the order of the visit. Generic, so that each query has a copy of its
+// own, which is compiled into its walk.
 #[inline(always)]
-fn children(
+fn children<Q: Query>(
     tree: &Tree,
     parent: Node,
     left: u32,
     right: u32,
     from: Coord,
-    is_nearer_first: bool,
+    query: &Q,
 ) -> Result<Turn, Damage>
     requires { kind_of tree.now parent ≡ Branch left right }
-    ensures turned { IfOk result (Turned tree.now from is_nearer_first parent left right) }
+    ensures turned { IfOk result (Turned tree.now from (Q.rules (Q.fixed query.now)).nearer_first parent left right) }
     ensures shares { IfOk result (Shares tree.now parent) }
     ensures damaged { OnErr result (OneDamaged tree.now parent left right) }
 {
@@ -156,36 +157,45 @@ fn children(
     if !tree.is_sound(left) || !tree.is_sound(right) {
         return Err(Damage);
     }
-    let first = !is_nearer_first || is_left_nearer(tree, left, right, from);
+    let first = !query.is_nearer_first() || is_left_nearer(tree, left, right, from);
     Ok(in_turn(first, left, right))
 }
 
 // From a sound node that is not passed over. A branch tests both its children, and works out both their bounds, before it
-// visits either, so that most of those that are passed over cost no call. The place goes as two numbers, which stay in
-// registers.
-fn visit<Q: Query>(tree: &Tree, x: f64, y: f64, node: Node, query: &mut Q) -> Result<(), Damage>
-    requires some { node.start < node.end }
-    requires sound { sound (kind_of tree.now node) ≡ true }
-    requires entered { (Q.rules (Q.fixed query.old)).skip (Q.state query.old) (bound (at x y) (bounds tree.now.boxes node.number)) ≡ false }
-    requires room { node.end - node.start ≤ Q.room query.old }
-    ensures walks { Walks tree.now (searching (Q.rules (Q.fixed query.old)) tree.now.points (at x y)) node.number node.start node.end (Q.state query.old) (came_to result (Q.state query.new)) }
+// visits either, so that most of those that are passed over cost no call.
+// Kept: the place goes as two numbers and the node as three, since a struct goes by pointer: a twentieth of a walk.
+fn visit<Q: Query>(
+    tree: &Tree,
+    x: f64,
+    y: f64,
+    number: u32,
+    start: usize,
+    end: usize,
+    query: &mut Q,
+) -> Result<(), Damage>
+    requires some { start < end }
+    requires sound { sound (kind_of tree.now (node number start end)) ≡ true }
+    requires entered { (Q.rules (Q.fixed query.old)).skip (Q.state query.old) (bound (at x y) (bounds tree.now.boxes number)) ≡ false }
+    requires room { end - start ≤ Q.room query.old }
+    ensures walks { Walks tree.now (searching (Q.rules (Q.fixed query.old)) tree.now.points (at x y)) number start end (Q.state query.old) (came_to result (Q.state query.new)) }
     ensures fixed { Q.fixed query.new ≡ Q.fixed query.old }
-    ensures room { OnOk result (Q.room query.old ≤ Q.room query.new + (node.end - node.start)) }
+    ensures room { OnOk result (Q.room query.old ≤ Q.room query.new + (end - start)) }
 {
+    let node = Node { number, start, end };
     let from = Coord { x, y };
     let Kind::Branch(left, right) = tree.known_kind(node.number) else {
         return query.scan(tree, tree.part(node), from, tree.known_bounds(node.number));
     };
-    let Turn { near, far } = children(tree, node, left, right, from, query.is_nearer_first())?;
+    let Turn { near, far } = children(tree, node, left, right, from, query)?;
     let near_bound = node_bound(tree, near, from);
     let far_bound = node_bound(tree, far, from);
     if !query.passes(near_bound) {
-        visit(tree, x, y, near, query)?;
+        visit(tree, x, y, near.number, near.start, near.end, query)?;
     }
     if query.passes(far_bound) {
         return Ok(());
     }
-    visit(tree, x, y, far, query)
+    visit(tree, x, y, far.number, far.start, far.end, query)
 }
 
 /// The walk of a query over a tree, whoever made it, from node 0 over all its points.
@@ -209,7 +219,15 @@ pub fn walk<Q: Query>(tree: &Tree, from: Coord, query: &mut Q) -> Result<(), Dam
     if query.passes(root_bound) {
         return Ok(());
     }
-    visit(tree, from.x, from.y, root, query)
+    visit(
+        tree,
+        from.x,
+        from.y,
+        root.number,
+        root.start,
+        root.end,
+        query,
+    )
 }
 
 /// The first of 1, 2 and 4 that applies to a query at a place over these points.
@@ -223,12 +241,11 @@ pub fn check_place(points: &[f64], place: Coord) -> Result<(), Refusal>
     Ok(())
 }
 
-/// The first n entries, squared distances, become distances.
-pub fn take_roots(s: &mut [f64], n: usize)
-    requires { n ≤ length s.old }
-    ensures { Rooted n s.old s.new }
+/// Squared distances become distances.
+pub fn take_roots(squares: &mut [f64])
+    ensures { Rooted (length squares.old) squares.old squares.new }
 {
-    for i in 0..n {
-        s[i] = root::square_root(s[i]);
+    for i in 0..squares.len() {
+        squares[i] = root::square_root(squares[i]);
     }
 }

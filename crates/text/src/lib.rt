@@ -53,7 +53,7 @@ impl<'a> Writer<'a> {
     }
 
     // The decimal digits of n.
-    // Kept: not std's Display, whose contract names no bytes.
+    // Kept: not `write!`, which answers a `fmt::Result`, where a line here cannot fail.
     fn put_decimal(&mut self, n: u32)
         requires room { self.old.at + length (decimal n) ≤ length self.old.out.now }
         ensures same_reference { self.new.out.ghost_name ≡ self.old.out.ghost_name }

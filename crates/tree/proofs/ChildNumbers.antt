@@ -12,14 +12,6 @@ use borrow.Author.Tests.{ltb-true}
 use Rattle.tree.specs.Node.{children, covers, kind}
 use Rattle.tree.specs.declared.Kind.TheVariants.{Branch, Damaged}
 
-pub zero-some : (c l r : ℕ) → l ≡ 0 → (r ≡ 0 → ⊥) → children c l r ≡ Damaged
-zero-some c l zero e h = absurd (h refl)
-zero-some c l (suc r) e h = rw e
-
-pub some-zero : (c l r : ℕ) → (l ≡ 0 → ⊥) → r ≡ 0 → children c l r ≡ Damaged
-some-zero c zero r h e = absurd (h refl)
-some-zero c (suc l) r h e = rw e
-
 pub some-some : (c l r : ℕ) → (l ≡ 0 → ⊥) → (r ≡ 0 → ⊥) → children c l r ≡ cond (ltb 1 c) (Branch l r) Damaged
 some-some c zero r h g = absurd (h refl)
 some-some c (suc l) zero h g = absurd (g refl)

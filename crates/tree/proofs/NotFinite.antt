@@ -14,24 +14,6 @@ use lib.Ieee.Scale.{finite}
 use borrow.Author.Tests.{ltb-true, ltb-false}
 use Rattle.tree.specs.Points.{size, x, y, finite_at, AllFinite, FirstBad}
 
--- ---- the search, at point i
-pub bad_before-none : (points : List Float) (j : ℕ) → j < 0 → T (finite_at points j)
-bad_before-none points j h = absurd (not-suc-le-zero h)
-
-module _ (points : List Float) (i : ℕ) where
-  module _ (w : i ≤ size points) (b : (j : ℕ) → j < i → T (finite_at points j)) where
-    pub first_bad_x : finite (x points i) ≡ false → FirstBad points i
-    first_bad_x e = record { within = w; before = b; there = λ _. rw e }
-
-    pub first_bad_y : finite (x points i) ≡ true → finite (y points i) ≡ false → FirstBad points i
-    first_bad_y d e = record { within = w; before = b; there = λ _. rw (d, e) }
-
-    pub first_bad_end : size points ≤ i → FirstBad points i
-    first_bad_end h = record { within = w; before = b; there = λ g. absurd (not-le_of_lt g h) }
-
-  pub finite_at_both : finite (x points i) ≡ true → finite (y points i) ≡ true → T (finite_at points i)
-  finite_at_both d e = rw (d, e) tt
-
 -- ---- what it is
 pub first_bad_not : (points : List Float) (i : ℕ) → T (finite_at points i) → finite_at points i ≡ false → ⊥
 first_bad_not points i h e = subst T e h

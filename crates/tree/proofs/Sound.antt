@@ -18,21 +18,10 @@ use Rattle.tree.specs.Inner.{sound, known}
 use Rattle.tree.specs.declared.Kind.{Kind}
 use Rattle.tree.specs.declared.Kind.TheVariants.{Leaf, Branch, Damaged}
 
-pub sound_tag : (k : Kind) → (k ≡ Damaged → ⊥) → sound k ≡ true
-sound_tag Leaf o = refl
-sound_tag (Branch l r) o = refl
-sound_tag Damaged o = absurd (o refl)
-
 pub tag_sound : (k : Kind) → sound k ≡ true → OneOf (0 ∷ 1 ∷ []) (tag_of K.the_type k)
 tag_sound Leaf h = inl refl
 tag_sound (Branch l r) h = inr refl
 tag_sound Damaged h = let z : ◌≡◌ {A = ℕ} 0 1 = cc in absurd (omega arith)
-
--- what a match knows past an arm, as the tags that are left
-pub undamaged : (k : Kind) → (k ≡ Damaged → ⊥) → OneOf (0 ∷ 1 ∷ []) (tag_of K.the_type k)
-undamaged Leaf h = inl refl
-undamaged (Branch l r) h = inr refl
-undamaged Damaged h = absurd (h refl)
 
 pub unbranched : (k : Kind) → ((x y : ℕ) → k ≡ Branch x y → ⊥) → OneOf (0 ∷ 2 ∷ []) (tag_of K.the_type k)
 unbranched Leaf h = inl refl
@@ -71,12 +60,3 @@ module _ (boxes : List Float) (links : List ℕ) (v a e : ℕ) (h : sound (kind 
 
   pub sound-known : kind boxes links v a e ≡ known links v
   sound-known = covered.1
-
-  whole : (leb (v * 6 + 6) (length boxes) ≡ true) × (leb (v * 4 + 4) (length links) ≡ true)
-  whole = both_true _ _ (both_true _ _ (both_true _ _ covered.0).0).0
-
-  pub sound-boxes : v * 6 + 6 ≤ length boxes
-  sound-boxes = leb-true (v * 6 + 6) (length boxes) whole.0
-
-  pub sound-links : v * 4 + 4 ≤ length links
-  sound-links = leb-true (v * 4 + 4) (length links) whole.1

@@ -12,7 +12,7 @@ use Rattle.select.proofs.Parting.{same_front, mid-all, put_back}
 use Rattle.tree.proofs.Entries.{same_trans}
 use Rattle.select.specs.Order.{rank}
 use Rattle.select.specs.Parts.{Split}
-use Rattle.build.proofs.Parts.{ready-fit, ready-same, ready-take, ready-drop}
+use Rattle.build.proofs.Parts.{ready-same, ready-take, ready-drop}
 use Rattle.build.proofs.Step.{leaf-done, branch-done, room-own, Big, big, room-left, room-right, mid-length, put-length, raised_left, raised_right}
 use Rattle.build.specs.Steps.{own_of, Ready}
 use Rattle.build.proofs.+build_recursive.Goals as goal
@@ -99,20 +99,6 @@ returns-then-count-leaf t c =
     let b = c.put_box in
     leaf-done _ _ _ _ _ _ _ (own_of o.result) _ _ c.requires.ready c.if-count-leaf.true o.ensures b.ensures c.put_link.ensures
 
-pub halve-requires : goal.halve-requires
-halve-requires t c =
-    ready-fit c.args.points.now c.args.part.now c.requires.ready
-
-pub slice_bounds-build_recursive-end-2 : goal.slice_bounds-build_recursive-end-2
-slice_bounds-build_recursive-end-2 t c =
-    sym (length-take-le (length c.args.part.now / 2) c.halve.new.part (omega (arith, c.halve.auto.part)))
-
-pub slice_bounds-build_recursive-count : goal.slice_bounds-build_recursive-count
-slice_bounds-build_recursive-count t c = own_b1 t (goal.at.slice_bounds-build_recursive-count t c).After-build_recursive-arg-1
-
-pub slice_bounds-build_recursive-start : goal.slice_bounds-build_recursive-start
-slice_bounds-build_recursive-start t c = own_b1 t (goal.at.slice_bounds-build_recursive-start t c).After-build_recursive-arg-1
-
 pub slice_bounds-build_recursive-count-2 : goal.slice_bounds-build_recursive-count-2
 slice_bounds-build_recursive-count-2 t c = own_k1 t (goal.at.slice_bounds-build_recursive-count-2 t c).After-build_recursive-arg-1
 
@@ -131,20 +117,8 @@ build_recursive-left-requires t c =
       ),
     )
 
-pub overflow_add-right : goal.overflow_add-right
-overflow_add-right t c = omega (arith, (start_of t (goal.at.overflow_add-right t c).Else-count-leaf).node_fits)
-
 pub overflow_add-right-2 : goal.overflow_add-right-2
 overflow_add-right-2 t c = omega (arith, (start_of t (goal.at.overflow_add-right-2 t c).Else-count-leaf).node_fits, left_is t (goal.at.overflow_add-right-2 t c).After-slice_known-8-1)
-
-pub overflow_cast-start-2 : goal.overflow_cast-start-2
-overflow_cast-start-2 t c = omega (arith, (start_of t (goal.at.overflow_cast-start-2 t c).Else-count-leaf).place_fits)
-
-pub overflow_cast-end-2 : goal.overflow_cast-end-2
-overflow_cast-end-2 t c = omega (arith, (start_of t (goal.at.overflow_cast-end-2 t c).Else-count-leaf).place_fits)
-
-pub overflow_add-node-2 : goal.overflow_add-node-2
-overflow_add-node-2 t c = omega (arith, (start_of t (goal.at.overflow_add-node-2 t c).Else-count-leaf).node_fits)
 
 pub overflow_cast-node : goal.overflow_cast-node
 overflow_cast-node t c = omega (arith, (start_of t (goal.at.overflow_cast-node t c).Else-count-leaf).node_fits, left_is t (goal.at.overflow_cast-node t c).After-slice_known-8-1)
@@ -167,9 +141,6 @@ overflow_mul-l2 t c = omega (arith, (start_of t (goal.at.overflow_mul-l2 t c).El
 pub overflow_add-l2 : goal.overflow_add-l2
 overflow_add-l2 t c = omega (arith, (start_of t (goal.at.overflow_add-l2 t c).Else-count-leaf).node_fits, left_is t (goal.at.overflow_add-l2 t c).After-slice_known-8-1)
 
-pub offset_bounds-part-mid : goal.offset_bounds-part-mid
-offset_bounds-part-mid t c = omega (arith, (start_of t (goal.at.offset_bounds-part-mid t c).Else-count-leaf).place_fits)
-
 pub offset_bounds-boxes-b2 : goal.offset_bounds-boxes-b2
 offset_bounds-boxes-b2 t c = omega (arith, (start_of t (goal.at.offset_bounds-boxes-b2 t c).Else-count-leaf).node_fits, left_is t (goal.at.offset_bounds-boxes-b2 t c).After-slice_known-8-1)
 
@@ -187,9 +158,6 @@ slice_bounds-build_recursive-count-5 t c = room_k3 t (goal.at.slice_bounds-build
 
 pub slice_bounds-build_recursive-start-5 : goal.slice_bounds-build_recursive-start-5
 slice_bounds-build_recursive-start-5 t c = room_k3 t (goal.at.slice_bounds-build_recursive-start-5 t c).After-slice_known-9-1
-
-pub overflow_add-start : goal.overflow_add-start
-overflow_add-start t c = omega (arith, (start_of t (goal.at.overflow_add-start t c).Else-count-leaf).place_fits)
 
 pub build_recursive-more-requires : goal.build_recursive-more-requires
 build_recursive-more-requires t c =
@@ -210,24 +178,6 @@ overflow_add-result t c = omega (arith, (start_of t (goal.at.overflow_add-result
 
 pub overflow_add-result-2 : goal.overflow_add-result-2
 overflow_add-result-2 t c = omega (arith, (start_of t (goal.at.overflow_add-result-2 t c).Else-count-leaf).node_fits, left_is t (goal.at.overflow_add-result-2 t c).After-slice_known-8-1, right_is t (goal.at.overflow_add-result-2 t c).After-slice_known-12-1)
-
-pub shape_of-part : goal.shape_of-part
-shape_of-part t c =
-    let g2 = c.build_recursive-more in
-    put-length (length c.args.part.now / 2) (c.build_recursive-left.new.part ++ drop (length c.args.part.now / 2) c.halve.new.part) g2.new.part (mid_p2 t (goal.at.shape_of-part t c).After-slice_known-8-1) g2.auto.part ∙ len_p2 t (goal.at.shape_of-part t c).After-slice_known-8-1
-
-pub shape_of-boxes : goal.shape_of-boxes
-shape_of-boxes t c =
-    let g = c.build_recursive-left in
-    let g2 = c.build_recursive-more in
-    put-length (6 + 6 * g.result) (put_mid 6 (length c.put_box.new.boxes - 6) c.put_box.new.boxes c.build_recursive-left.new.boxes) g2.new.boxes (room_b2 t (goal.at.shape_of-boxes t c).After-slice_known-8-1) g2.auto.boxes ∙ len_b2 t (goal.at.shape_of-boxes t c).After-slice_known-8-1
-
-pub shape_of-links : goal.shape_of-links
-shape_of-links t c =
-    let g = c.build_recursive-left in
-    let k = c.put_link-2 in
-    let g2 = c.build_recursive-more in
-    put-length (4 + 4 * g.result) k.new.links g2.new.links (room_k3 t (goal.at.shape_of-links t c).After-slice_known-9-1) g2.auto.links ∙ len_k3 t (goal.at.shape_of-links t c).After-slice_known-9-1
 
 pub returns : goal.returns
 returns t c =

@@ -4,13 +4,11 @@ use mathlib.Core.Path.{◌≡◌, sym, ap, ◌∙◌, subst}
 use mathlib.Core.List.{List, ◌++◌}
 use Prim.Native.Nat.{ℕ, ◌<◌, ◌/◌}
 use native.Mathlib.Nat.{pos_of_ne-zero}
-use native.Mathlib.Omega.{arith}
 use lib.ListN.{length, take, drop}
 use lib.Seq.{take_at, drop_at, length-take-le}
 use Rattle.tree.proofs.Counting.{nodes-none}
-use Rattle.tree.specs.Accepted.{tree}
 use Rattle.tree.specs.Count.{leaf_of, nodes}
-use Rattle.build.proofs.Whole.{whole_ready, whole_room, whole-none, whole-done}
+use Rattle.build.proofs.Whole.{whole_ready, whole_room, whole-done}
 use Rattle.build.specs.Built.{Each}
 use Rattle.build.specs.Steps.{Raised}
 use Rattle.build.proofs.build_whole.Goals as goal
@@ -28,20 +26,10 @@ numbered c = subst (λ (n : ℕ). Each n (c.number.new.part)) (taken c) c.number
 front : (c : After-slice_known-4-1) → take (length c.args.points.now / 2) ((c.number.new.part) ++ drop (length c.args.points.now / 2) (c.args.indices.now)) ≡ (c.number.new.part)
 front c = take_at (c.number.new.part) (drop (length c.args.points.now / 2) (c.args.indices.now)) (length c.args.points.now / 2) (sized c)
 
-pub returns-then-n-eq0 : goal.returns-then-n-eq0
-returns-then-n-eq0 c =
-    let a = c.args in
-    (record { nodes = sym (ap (nodes (leaf_of a.leaf_size)) c.if-n-eq0.true ∙ nodes-none (leaf_of a.leaf_size)); built = whole-none a.leaf_size (tree a.points.now a.indices.now a.boxes.now a.links.now) c.if-n-eq0.true })
-
-pub slice_bounds-number-end-2 : goal.slice_bounds-number-end-2
-slice_bounds-number-end-2 c = sym (length-take-le (length c.args.points.now / 2) c.args.indices.now c.requires.room)
-
-pub number-requires : goal.number-requires
-number-requires c =
-    omega (arith, length-take-le (length c.args.points.now / 2) c.args.indices.now c.requires.room, c.requires.usable.in_limit)
-
-pub slice_bounds-build_recursive-end-2 : goal.slice_bounds-build_recursive-end-2
-slice_bounds-build_recursive-end-2 c = sym (ap length (front (goal.at.slice_bounds-build_recursive-end-2 c).After-slice_known-4-1) ∙ sized (goal.at.slice_bounds-build_recursive-end-2 c).After-slice_known-4-1)
+pub returns-then-n-eq0-clause-nodes : goal.returns-then-n-eq0-clause-nodes
+returns-then-n-eq0-clause-nodes c =
+    let leaf = leaf_of c.args.leaf_size in
+    sym (ap (nodes leaf) c.if-n-eq0.true ∙ nodes-none leaf)
 
 pub build_recursive-requires : goal.build_recursive-requires
 build_recursive-requires c =

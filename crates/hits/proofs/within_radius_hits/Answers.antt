@@ -1,6 +1,6 @@
 -- `hits::within_radius_hits` meets its contract: the hits that were answered have room in all three slices, and are set one
 -- after the other. Assumes nothing.
-use Rattle.std.proofs.Common.{◌<◌, length, arith}
+use Rattle.std.proofs.Common.{arith}
 use Rattle.radius.specs.Within.{reply}
 use Rattle.hits.proofs.Records.{set-pairs, few}
 use Rattle.hits.proofs.within_radius_hits.Goals as goal

@@ -1,6 +1,6 @@
 -- `radius::set_distances` meets its contract. The invariant: the squared distances of the first k hits stand in front.
 -- Assumes nothing.
-use Rattle.std.proofs.Common.{◌≡◌, length, take, drop, ◌++◌}
+use Rattle.std.proofs.Common.{◌≡◌, take, drop, ◌++◌}
 use Rattle.radius.specs.Within.{squares}
 use Rattle.radius.proofs.set_distances.Given as goal
 

@@ -1,6 +1,6 @@
 -- `radius::within_radius_capped` meets its contract: the indices over the first entries, as many as there is room for, and the
 -- distances by what was answered. Assumes nothing.
-use Rattle.std.proofs.Common.{◌≡◌, ◌≤◌, ◌<◌, ℕ, List, ◌++◌, length, take, drop, min, sym, ap, ◌∙◌, subst, arith, rules, Result, Err}
+use Rattle.std.proofs.Common.{◌≡◌, ◌≤◌, ℕ, List, length, take, min, ap, ◌∙◌, subst, arith, rules, Result, Err}
 use lib.Seq.{length-take-le}
 use lib.Ieee.{Float}
 use Rattle.refusal.specs.declared.Refusal.{Refusal}

@@ -6,7 +6,7 @@ use Rattle.root.proofs.Squares.{some, fits, square_above}
 use Rattle.root.proofs.cut_root.Goals as goal
 
 pub overflow_mul-square : goal.overflow_mul-square
-overflow_mul-square c = record { fits = omega (arith, fits c.args.first c.requires.1) }
+overflow_mul-square c = record { fits = omega (arith, fits c.args.first c.requires.guess) }
 
 pub overflow_sub-g : goal.overflow_sub-g
 overflow_sub-g c = let l = c.too_large in some c.args.a l.g (omega (arith, l.invariant.0, c.too_large-test.true))

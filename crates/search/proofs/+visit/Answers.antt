@@ -5,6 +5,7 @@ use Rattle.std.proofs.lemmas.Result.{err_from_is_err_and, on_ok_weaker}
 use Rattle.distance.specs.declared.Bounds.{Bounds}
 use Rattle.tree.specs.Node.{bounds}
 use Rattle.tree.specs.Accepted.{count}
+use Rattle.tree.specs.Lent.{node}
 use Rattle.tree.proofs.Sound.{unbranched, sound-known}
 use Rattle.search.specs.Walk.{leaf_scan, outcome, Walks, got}
 use Rattle.search.specs.Order.{at}
@@ -22,12 +23,12 @@ returns-in_default g t c =
     let s = g.Q.Query.state a.query.now in
     record {
       walks =
-          sound-leaf T Q a.node.number a.node.start a.node.end s c.requires.sound c.requires.some c.known_kind.result c.known_kind.ensures
+          sound-leaf T Q a.number a.start a.end s c.requires.sound c.requires.some c.known_kind.result c.known_kind.ensures
           (unbranched c.known_kind.result c.in_default.not-Branch) c.requires.entered _
           (c.scan.ensures.state ∙ ap (λ (b : Bounds). outcome (leaf_scan (count T) Q b s c.part.result.now)) c.known_bounds.ensures
-          ∙ ap (λ (l : List ℕ). outcome (leaf_scan (count T) Q (bounds T.boxes a.node.number) s l)) c.part.ensures);
+          ∙ ap (λ (l : List ℕ). outcome (leaf_scan (count T) Q (bounds T.boxes a.number) s l)) c.part.ensures);
       fixed = c.scan.ensures.fixed;
-      room = on_ok_weaker c.scan.result (λ h. omega (arith, h, part-length T.indices a.node.start a.node.end, ap length c.part.ensures)) c.scan.ensures.room;
+      room = on_ok_weaker c.scan.result (λ h. omega (arith, h, part-length T.indices a.start a.end, ap length c.part.ensures)) c.scan.ensures.room;
     }
 
 pub returns-in_err-near-clause-walks : goal.returns-in_err-near-clause-walks
@@ -35,18 +36,18 @@ returns-in_err-near-clause-walks g t c =
     let a = c.args in
     let s = g.Q.Query.state a.query.now in
     let R = g.Q.Query.rules (g.Q.Query.fixed a.query.now) in
-    let is = sound-known a.tree.now.boxes a.tree.now.links a.node.number a.node.start a.node.end c.requires.sound ∙ sym c.known_kind.ensures ∙ c.in-Branch.is in
+    let is = sound-known a.tree.now.boxes a.tree.now.links a.number a.start a.end c.requires.sound ∙ sym c.known_kind.ensures ∙ c.in-Branch.is in
     let p = err_from_is_err_and c.from_residual.result c.from_residual.ensures.1 in
-    rw p.1 (child-broken a.tree.now (at a.x a.y) R a.node s _ _ is c.requires.entered c.in_err-near.ensures.damaged)
+    rw p.1 (child-broken a.tree.now (at a.x a.y) R (node a.number a.start a.end) s _ _ is c.requires.entered c.in_err-near.ensures.damaged)
 
 pub returns-in_err-visit-clause-walks : goal.returns-in_err-visit-clause-walks
 returns-in_err-visit-clause-walks g t c =
     let a = c.args in
     let s = g.Q.Query.state a.query.now in
     let R = g.Q.Query.rules (g.Q.Query.fixed a.query.now) in
-    let is = sound-known a.tree.now.boxes a.tree.now.links a.node.number a.node.start a.node.end c.requires.sound ∙ sym c.known_kind.ensures ∙ c.in-Branch.is in
+    let is = sound-known a.tree.now.boxes a.tree.now.links a.number a.start a.end c.requires.sound ∙ sym c.known_kind.ensures ∙ c.in-Branch.is in
     let p = err_from_is_err_and c.from_residual-in_err-visit.result c.from_residual-in_err-visit.ensures.1 in
-    rw p.1 (near-broken a.tree.now (at a.x a.y) R a.node s _ _ is c.requires.entered _ (rw c.is_nearer_first.ensures at c.in_ok-near.ensures.turned)
+    rw p.1 (near-broken a.tree.now (at a.x a.y) R (node a.number a.start a.end) s _ _ is c.requires.entered _ c.in_ok-near.ensures.turned
     (rw c.in_err-visit.was at c.visit.ensures.walks))
 
 pub returns-then-passes-clause-walks : goal.returns-then-passes-clause-walks
@@ -61,7 +62,7 @@ returns-then-passes-clause-walks g t c =
     let u = g.Q.Query.state c.if-not-passes.query in
     let T = c.in_ok-near.field-0 in
     let b = c.in_ok-near.ensures.shares in
-    let is = sound-known t.boxes t.links a.node.number a.node.start a.node.end c.requires.sound ∙ sym c.known_kind.ensures ∙ c.in-Branch.is in
+    let is = sound-known t.boxes t.links a.number a.start a.end c.requires.sound ∙ sym c.known_kind.ensures ∙ c.in-Branch.is in
     let near : Walks t Q T.near.number T.near.start T.near.end s (got u) × (g.Q.Query.fixed c.if-not-passes.query ≡ F) =
     elim c.if-not-passes.branch [
       | then-not-passes+in_ok-visit w ↦ rw w.query-is (rw w.in_ok-visit.was at w.visit.ensures.walks, w.visit.ensures.fixed)
@@ -71,7 +72,7 @@ returns-then-passes-clause-walks g t c =
         refl,
       )
     ] in
-    near-then t q R a.node s _ _ is c.requires.entered T (rw c.is_nearer_first.ensures at c.in_ok-near.ensures.turned) u near.0 _
+    near-then t q R (node a.number a.start a.end) s _ _ is c.requires.entered T c.in_ok-near.ensures.turned u near.0 _
     (sound-skip t Q T.far.number T.far.start T.far.end u b.far_sound b.far_some
     (rw (near.1, c.node_bound-far_bound.ensures) at (sym c.passes-2.ensures ∙ c.if-passes.true)))
 
@@ -87,7 +88,7 @@ returns-clause-walks g t c =
     let u = g.Q.Query.state c.if-not-passes.query in
     let T = c.in_ok-near.field-0 in
     let b = c.in_ok-near.ensures.shares in
-    let is = sound-known t.boxes t.links a.node.number a.node.start a.node.end c.requires.sound ∙ sym c.known_kind.ensures ∙ c.in-Branch.is in
+    let is = sound-known t.boxes t.links a.number a.start a.end c.requires.sound ∙ sym c.known_kind.ensures ∙ c.in-Branch.is in
     let near : Walks t Q T.near.number T.near.start T.near.end s (got u) × (g.Q.Query.fixed c.if-not-passes.query ≡ F) =
     elim c.if-not-passes.branch [
       | then-not-passes+in_ok-visit w ↦ rw w.query-is (rw w.in_ok-visit.was at w.visit.ensures.walks, w.visit.ensures.fixed)
@@ -97,5 +98,5 @@ returns-clause-walks g t c =
         refl,
       )
     ] in
-    near-then t q R a.node s _ _ is c.requires.entered T (rw c.is_nearer_first.ensures at c.in_ok-near.ensures.turned) u near.0 _
+    near-then t q R (node a.number a.start a.end) s _ _ is c.requires.entered T c.in_ok-near.ensures.turned u near.0 _
     (rw near.1 at c.visit-2.ensures.walks)

@@ -3,4 +3,4 @@ use Rattle.std.proofs.Common.{◌-◌}
 use Rattle.search.proofs.+visit.Given as goal
 
 abbrev pub decreases-visit : goal.decreases-visit
-decreases-visit g l = l.node.end - l.node.start
+decreases-visit g l = l.end - l.start

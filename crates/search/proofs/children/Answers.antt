@@ -6,7 +6,7 @@ use Rattle.search.proofs.children.Goals as goal
 use Rattle.search.proofs.children.Goals.{then-not-is_nearer_first, else-not-is_nearer_first}
 
 pub returns-clause-shares : goal.returns-clause-shares
-returns-clause-shares c =
+returns-clause-shares g c =
     let a = c.args in
-    let turned : Turned a.tree.now a.from a.is_nearer_first a.parent a.left a.right c.in_turn.result = search rules in
-    shares a.tree.now a.from a.is_nearer_first a.parent a.left a.right _ c.requires turned
+    let turned : Turned a.tree.now a.from (g.Q.Query.rules (g.Q.Query.fixed a.query.now)).nearer_first a.parent a.left a.right c.in_turn.result = search rules in
+    shares a.tree.now a.from (g.Q.Query.rules (g.Q.Query.fixed a.query.now)).nearer_first a.parent a.left a.right _ c.requires turned

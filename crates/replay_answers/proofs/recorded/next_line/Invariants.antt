@@ -1,11 +1,7 @@
--- `next_line` meets its contract: the loop's invariant is `Clear` of `Lines.antt`; the measure is what is left. Assumes nothing.
-use Prim.Native.Nat.{◌-◌}
-use lib.ListN.{length}
-use Rattle.replay_answers.proofs.Lines.{Clear}
+-- `next_line` has met no line that begins. Assumes nothing.
+use Rattle.std.proofs.Common.{◌≡◌, false, ℕ, ◌<◌}
+use Rattle.replay_answers.specs.Lines.{begins}
 use Rattle.replay_answers.proofs.recorded.next_line.Given as goal
 
-abbrev pub invariant-loop-i : goal.invariant-loop-i
-invariant-loop-i l = Clear l.text l.at l.i
-
-abbrev pub decreases-loop-i : goal.decreases-loop-i
-decreases-loop-i l = length l.text - l.i
+abbrev pub invariant-bytes : goal.invariant-bytes
+invariant-bytes l = (k : ℕ) → l.fn.at < k → k < l.i → begins l.text k ≡ false
