@@ -20,7 +20,8 @@ use Rattle.stream.specs.Feeding as feeding
 use Rattle.stream.specs.Feeding.{Ends, on, FedBy}
 use Rattle.stream.proofs.Pieces.{joined-on, joined_off}
 use Rattle.stream.proofs.Printing.{wants-cut, over-at, cut_at}
-use Rattle.serve.specs.Serving.{tail, Waits}
+use Rattle.serve.specs.Waiting.{longest_record}
+use Rattle.serve.specs.Serving.{cut_line, tail, Waits}
 
 put-front : (before text now : List ℕ) (next : ℕ) → Put before 0 text now next → next ≤ length before → take next now ≡ text
 put-front before text now next P h =
@@ -34,14 +35,18 @@ body-few false false false true b₅ = omega arith
 body-few false false false false true = omega arith
 body-few false false false false false = omega arith
 
-tail-over : (l : List ℕ) → length l ≤ 0 → tail l ≡ []
-tail-over [] h = refl
-tail-over (x ∷ l) h = absurd (omega arith)
+-- ---- what is printed for a rest at the end
+pub tail-none : (l : List ℕ) → length l ≤ 0 → tail l ≡ []
+tail-none [] h = refl
+tail-none (x ∷ l) h = absurd (omega arith)
 
-tail-cut : (l : List ℕ) → 0 < length l → tail l ≡ error 10
+pub tail-some : (l : List ℕ) → 0 < length l → tail l ≡ cut_line
+tail-some [] h = absurd (omega arith)
+tail-some (x ∷ l) h = refl
+
+cut_line-is : cut_line ≡ error 10
 unfolding decimals
-tail-cut [] h = absurd (omega arith)
-tail-cut (x ∷ l) h = refl
+cut_line-is = refl
 
 module _ (s : List ℕ) (p : List Float) (out : List ℕ) {p' : List Float} {out' : List ℕ} (f : Fed) (F : FedBy s 0 p out p' out' f) where
   written : take f.wrote out' ≡ F.text
@@ -62,10 +67,10 @@ module _ (s : List ℕ) (p : List Float) (out : List ℕ) {p' : List Float} {out
   rest_is : length (drop f.used s) ≡ length s - f.used
   rest_is = length-drop f.used s
 
-  short : f.stop ≡ Hungry → length (drop f.used s) < 32
+  short : f.stop ≡ Hungry → length (drop f.used s) < longest_record
   short e = go (ltb f.used (length s)) refl
     where
-      go : (b : Bool) → ltb f.used (length s) ≡ b → length (drop f.used s) < 32
+      go : (b : Bool) → ltb f.used (length s) ≡ b → length (drop f.used s) < longest_record
       go true g =
           let d : leb (body_of (get_or s f.used 0)) (length s - (f.used + 1)) ≡ false =
           wants-cut (ltb f.used (length s)) _ (record_at s (get_or s f.used 0) (f.used + 1)) (f.used + 1 + body_of (get_or s f.used 0)) g (wants e).wants in
@@ -80,10 +85,10 @@ module _ (s : List ℕ) (p : List Float) (out : List ℕ) {p' : List Float} {out
       go : (b : Bool) → ltb f.used (length s) ≡ b → Output p' (drop f.used s) (tail (drop f.used s))
       go true g =
           let h : f.used < length s = ltb-true f.used (length s) g in
-          subst (Output p' (drop f.used s)) (sym (tail-cut (drop f.used s) (omega (arith, rest_is)))) (cut (cut_at s f.used h (wants e).wants))
+          subst (Output p' (drop f.used s)) (sym (tail-some (drop f.used s) (omega (arith, rest_is)) ∙ cut_line-is)) (cut (cut_at s f.used h (wants e).wants))
       go false g =
           let h : length s ≤ f.used = ltb-false f.used (length s) g in
-          subst (Output p' (drop f.used s)) (sym (tail-over (drop f.used s) (omega (arith, rest_is)))) (over (over-at s f.used h))
+          subst (Output p' (drop f.used s)) (sym (tail-none (drop f.used s) (omega (arith, rest_is)))) (over (over-at s f.used h))
 
   pub waits : f.stop ≡ Hungry → Waits p' (drop f.used s)
   waits e = record { short = short e; prints = rest_prints e }

@@ -1,15 +1,14 @@
 -- How turns join, and what each way out of one makes of reader and writer. Assumes nothing.
-use Rattle.std.proofs.Common.{◌≡◌, ℕ, ◌≤◌, ◌<◌, Bool, true, false, List, [], ◌∷◌, ◌++◌, length, take, drop, refl, ap, sym, subst, ◌∙◌, arith, Option, None, Some, eqb, zero, suc}
+use Rattle.std.proofs.Common.{◌≡◌, ℕ, ◌≤◌, ◌<◌, true, false, List, [], ◌∷◌, ◌++◌, length, take, drop, refl, ap, sym, subst, ◌∙◌, arith, Option, None, Some, eqb, zero, suc}
 use borrow.Author.Tests.{eqb-true, eqb-false}
 use Rattle.std.proofs.lemmas.List.{append_assoc, append-nil}
 use Rattle.std.specs.Io.KnownBytes.{Appends, Consumes, IsAtEnd}
 use lib.Ieee.{Float}
 use Rattle.stream.specs.declared.Fed.{Fed}
-use Rattle.stream.specs.declared.Stop.TheVariants.{Hungry, Done}
 use Rattle.stream.specs.Stream.{Output}
 use Rattle.stream.specs.Feeding.{on, FedBy}
 use Rattle.serve.specs.Serving.{cut_line, tail, Waits, Came, Moves, Turns, Ends}
-use Rattle.serve.proofs.Fed.{yields, whole}
+use Rattle.serve.proofs.Fed.{tail-none, tail-some, yields, whole}
 
 -- ---- what is written
 nothing : (wrote : Option (List ℕ)) → Appends wrote wrote []
@@ -89,14 +88,6 @@ module _ {x y : Option (List ℕ)} {p : List Float} {s s' : List ℕ} {got : ℕ
   over : (y : Option (List ℕ)) (o o' : Option (List ℕ)) → IsAtEnd y → Appends o o' (tail s) → Ends y o o' p s'
   over None o o' e a = tt
   over (Some ys) o o' e a = (tail s, subst (λ (l : List ℕ). Output p l (tail s)) (sym (ap (λ (l : List ℕ). s' ++ l) e ∙ append-nil s' ∙ same)) W.prints, a)
-
-  tail-none : (l : List ℕ) → length l ≤ 0 → tail l ≡ []
-  tail-none [] h = refl
-  tail-none (b ∷ l) h = absurd (omega arith)
-
-  tail-some : (l : List ℕ) → 0 < length l → tail l ≡ cut_line
-  tail-some [] h = absurd (omega arith)
-  tail-some (b ∷ l) h = refl
 
   pub over-none : (o : Option (List ℕ)) → eqb (length s') 0 ≡ true → Ends y o o p s'
   over-none o h = over y o o (C.ends z) (subst (Appends o o) (sym (tail-none s (omega (arith, ap length same, eqb-true (length s') 0 h)))) (nothing o))

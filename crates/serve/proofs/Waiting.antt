@@ -5,7 +5,7 @@ use Rattle.std.proofs.lemmas.List.Edits.{take-paste}
 use Rattle.std.proofs.Math.Seq.{take-append-add}
 use Rattle.std.specs.List.{copy_within}
 use borrow.Rule.Slice.PartMut.{put_mid, post_of}
-use Rattle.serve.specs.Waiting.{held, Good}
+use Rattle.serve.specs.Waiting.{held}
 
 pub held-length : (used have : ℕ) (bytes : List ℕ) → used ≤ have → have ≤ length bytes → length (held used have bytes) ≡ have - used
 held-length used have bytes le fits = length-take-le (have - used) (drop used bytes) (omega (arith, length-drop used bytes))

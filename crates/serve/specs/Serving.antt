@@ -11,6 +11,7 @@
 use Rattle.std.specs.Prelude.{◌≡◌, ℕ, ◌<◌, Bool, true, false, List, [], ◌∷◌, ◌++◌, length, Option, None, Some, ⊤, IfSome, Float}
 use Rattle.std.specs.Io.KnownBytes.{Appends, Consumes, IsAtEnd}
 use Rattle.stream.specs.Stream.{Output}
+use Rattle.serve.specs.Waiting.{longest_record}
 
 abbrev pub cut_line : List ℕ
 cut_line = 69 ∷ 32 ∷ 49 ∷ 48 ∷ 10 ∷ []
@@ -20,7 +21,7 @@ tail [] = []
 tail (x ∷ xs) = cut_line
 
 pub record Waits (p : List Float) (s : List ℕ) : Type 0 where
-  pub short : length s < 32
+  pub short : length s < longest_record
   pub prints : Output p s (tail s)
 
 pub record Came (left left' : Option (List ℕ)) (s s' : List ℕ) (got : ℕ) : Type 0 where

@@ -5,6 +5,7 @@
 ghost use Rattle.std.specs.Prelude.{◌≡◌, ◌<◌, ◌≤◌, ℕ, [], List, eqb, length, drop, IfOk, OnOk, IfSome};
 ghost use Rattle.std.specs.Io.KnownBytes.{Appends};
 ghost use Rattle.stream.specs.Stream.{Output};
+ghost use Rattle.serve.specs.Waiting.{longest_record};
 ghost use Rattle.serve.specs.Serving.{Came, Turned, Ends};
 
 use std::io;
@@ -36,7 +37,7 @@ impl<'a> Model for Input<'a> {
 
 impl<'a> Input<'a> {
     fn new(bytes: &'a mut [u8]) -> Self
-        requires room { 32 ≤ length bytes.old }
+        requires room { longest_record ≤ length bytes.old }
         ensures none { result ≡ [] }
     {
         Input {
@@ -68,7 +69,7 @@ impl<'a> Input<'a> {
 
     // What is left goes to the front, and one read comes after it. Answers how many bytes came: none where the reader ends.
     fn refill<R: Read>(&mut self, reader: &mut R) -> io::Result<usize>
-        requires room { length self.old < 32 }
+        requires room { length self.old < longest_record }
         ensures came { IfOk result (Came (R.remaining reader.old) (R.remaining reader.new) self.old self.new) }
     {
         let (used, have) = (self.used, self.have);

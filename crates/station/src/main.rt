@@ -1,4 +1,4 @@
-// The station: records from standard input, lines to standard output.
+//! The station: records from standard input, lines to standard output.
 #![tactic(auto)]
 
 use std::io;

@@ -1,4 +1,4 @@
-// A run of the station over no bytes: no line.
+//! A run of the station over no bytes: no line.
 #![tactic(auto)]
 
 use std::io;

@@ -8,7 +8,6 @@ pub mod Around
 pub mod Lists
 pub mod Labelled
 pub mod Steps
-pub mod Started
 pub mod Turns
 pub mod Pieces
 pub mod Printing

@@ -1,5 +1,5 @@
 -- What a query that lists hits lists: by a scan, each hit at a distance of no minus sign, and so it is printed. Assumes nothing.
-use Prim.Native.Nat.{ℕ, ◌≤◌, min}
+use Prim.Native.Nat.{ℕ}
 use mathlib.Core.Path.{◌≡◌, ◌∙◌}
 use mathlib.Core.List.{List}
 use native.Mathlib.Omega.{arith}

@@ -11,7 +11,7 @@ use Rattle.distance.specs.declared.Coord.{Coord}
 use Rattle.tree.specs.Points.{size}
 use Rattle.tree.specs.Accepted.{Tree, count, Accepted}
 use Rattle.search.specs.Refusal.{refusal}
-use Rattle.search.specs.Answer.{Answer, refused, hits}
+use Rattle.search.specs.Answer.{refused, hits}
 use Rattle.search.specs.declared.Best.{Best}
 use Rattle.tree.proofs.Each.{Each, each_map}
 use Rattle.k_nearest.specs.Scan.{nearest_k}

@@ -10,11 +10,10 @@ use lib.Ieee.{Float}
 use borrow.Author.Tests.{ltb-true, leb-true}
 use Rattle.records.specs.Record.{read_at, record_at, body_of}
 use Rattle.records.specs.declared.Record.{Record}
-use Rattle.records.specs.declared.Read.{Read}
 use Rattle.records.specs.declared.Read.TheVariants.{Whole, Cut, End}
 use Rattle.text.specs.Line.{Put}
 use Rattle.text.proofs.Laws.{kept, then}
-use Rattle.stream.specs.declared.Stop.TheVariants.{Hungry, Full, Done}
+use Rattle.stream.specs.declared.Stop.TheVariants.{Done}
 use Rattle.stream.specs.Stream.{goes}
 use Rattle.stream.specs.Feeding as f
 use Rattle.stream.specs.Feeding.{longest, Stepped, Takes, Wants, FedBy}
@@ -51,16 +50,10 @@ module _ (s : List ℕ) (from : ℕ) (p₀ : List Float) (out₀ : List ℕ) whe
     pub same_size : length out ≡ length out₀
     same_size = kept F.put
 
-    pub full : length out - w < 32768 → FedBy s from p₀ out₀ p out (record { used = at; wrote = w; stop = Full })
-    full h = record { text = F.text; takes = F.takes; ends = omega (arith, same_size); put = F.put; inside = F.inside; room = F.room }
-
     module _ (h : 32768 ≤ length out - w) {what : Record} {next : ℕ} (e : read_at s at ≡ Whole what next)
         {p' : List Float} {out' : List ℕ} {w' : ℕ} {going : Bool} (q : Stepped what p out w p' out' w' going) where
       roomy : w' ≤ length out₀
       roomy = omega (arith, same_size, q.replies.put.past, q.replies.short, h)
-
-      pub less : length s - next < length s - at
-      less = let P = place s at what next e in omega (arith, P.before, P.past)
 
       within : next ≤ length s
       within = let P = place s at what next e in omega (arith, P.before, P.body, P.past)

@@ -155,6 +155,7 @@ impl<'a> Map<'a> {
     {
         if !self.fresh {
             let end = 2 * self.count;
+            // Kept: the points as `&mut`; a `&` into one field beside `&mut`s of others is not covered by the check yet.
             grow(
                 &mut self.points[..end],
                 self.indices,
@@ -409,7 +410,8 @@ pub fn print_all(
         Stop::Full => Printed::Full(fed.wrote),
         Stop::Done => Printed::Whole(fed.wrote),
         Stop::Hungry => {
-            if fed.used < input.len() {
+            let is_cut = fed.used < input.len();
+            if is_cut {
                 let mut lines = Writer::new(out, fed.wrote);
                 put_error(Refusal::UnknownRecord, &mut lines);
                 return Printed::Whole(lines.at);

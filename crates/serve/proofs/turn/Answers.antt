@@ -1,5 +1,5 @@
 -- `serve::turn` meets its contract: each way out, after what was fed and written. Assumes nothing.
-use Rattle.std.proofs.Common.{List, ℕ, length, ap, sym, subst, ◌∙◌, arith}
+use Rattle.std.proofs.Common.{List, ℕ, ap, sym, subst, ◌∙◌, arith}
 use Rattle.stream.specs.Feeding.{on, FedBy}
 use Rattle.serve.specs.Serving.{Waits}
 use Rattle.serve.proofs.Fed.{waits}

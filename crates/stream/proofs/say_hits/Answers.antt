@@ -1,5 +1,5 @@
 -- `stream::say_hits` meets its contract: what is found is written, and it is what the scan lists. Assumes nothing.
-use Rattle.std.proofs.Common.{length, subst, ℕ, ◌≤◌, rules}
+use Rattle.std.proofs.Common.{subst, ℕ, rules}
 use Rattle.stream.specs.Prints.{Replied}
 use Rattle.stream.specs.Asked.{asked, listed}
 use Rattle.stream.proofs.Listing.{writes, lists}

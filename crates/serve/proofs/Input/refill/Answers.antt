@@ -1,6 +1,7 @@
 -- `serve::Input::refill` meets its contract: what was read comes after what waited. Assumes nothing.
-use Rattle.std.proofs.Common.{◌≤◌, ◌<◌, ◌∙◌, List, ℕ, ◌++◌, length, take, ap, sym, subst, arith, rules, ◌-◌}
+use Rattle.std.proofs.Common.{◌<◌, ◌∙◌, List, ℕ, ◌++◌, length, take, ap, arith, rules, ◌-◌}
 use lib.Seq.{length-take-le}
+use Rattle.serve.specs.Waiting.{longest_record}
 use Rattle.serve.proofs.Waiting.{held-length, refilled}
 use Rattle.serve.proofs.Input.refill.Goals as goal
 
@@ -10,8 +11,8 @@ returns g c =
     let I = c.self.invariant in
     let n = c.in_ok-got.got in
     let buf = c.read.new.buf in
-    let short : length c.args.self.now < 32 = c.requires.room in
-    let few : i.have - i.used < 32 = omega (arith, held-length i.used i.have i.bytes.now I.used_in I.have_in, ap length c.self.view_is, short) in
+    let short : length c.args.self.now < longest_record = c.requires.room in
+    let few : i.have - i.used < longest_record = omega (arith, held-length i.used i.have i.bytes.now I.used_in I.have_in, ap length c.self.view_is, short) in
     record {
       came = record {
         bytes = take n buf;
