@@ -26,6 +26,7 @@ use select::Axis;
 // ---- the box of a part
 
 // The lesser and the greater of two by the order of numbers alone: each one instruction, without a jump.
+// Kept: two functions that differ in a comparison; the edit smaller_turned is the one for the other.
 #[tactic(auto, unfolding(crate::specs::Steps::smaller))]
 fn smaller(a: f64, b: f64) -> f64
     ensures { result ≡ smaller a b }

@@ -80,6 +80,7 @@ fn print_answer(
     }
 }
 
+// Kept: four slices and no struct of them, here and below: each map cuts them anew to the lengths that it asks for.
 // The map whose coordinates start at a place of the text, in slices of just the lengths that it asks for.
 fn print_built(
     rt: &impl Print,

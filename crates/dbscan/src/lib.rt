@@ -65,6 +65,7 @@ fn plant(points: &[f64], indices: &mut [u32], boxes: &mut [f64], links: &mut [u3
 
 /// The labels of the points, into the front of `labels`; or a refusal, and all is as it was. Shapes: n indices, N(n) nodes,
 /// n labels, 2 n entries of work. One radius query for each point.
+// Kept: the five slices go one by one, as C lends them.
 pub fn dbscan(
     points: &[f64],
     epsilon: f64,

@@ -66,6 +66,7 @@ impl<'a> Query for Holding<'a> {
     }
 
     // The count stands in a register meanwhile.
+    // Kept: a loop of its own, as in the other queries: one for all takes a closure for each point and is no shorter.
     #[inline]
     fn scan(
         &mut self,

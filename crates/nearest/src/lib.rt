@@ -68,6 +68,7 @@ impl Query for Closest {
     }
 
     // The best stands in registers meanwhile.
+    // Kept: a loop of its own, as in the other queries: one for all takes a closure for each point and is no shorter.
     #[inline(always)]
     fn scan(
         &mut self,

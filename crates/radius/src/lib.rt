@@ -79,6 +79,7 @@ fn keep(out: &mut [u32], count: usize, is_hit: bool, index: u32) -> usize
     count + is_hit as usize
 }
 
+// Kept: a loop of its own, as in the other queries: one for all takes a closure for each point and is no shorter.
 // The points of a part, each tested; how many hits there are by then, which stay in a register meanwhile.
 #[inline(always)]
 fn take_within(
