@@ -38,8 +38,6 @@ module _ (points : List Float) (ls i b k : ℕ) (L : Given ls points i b k) wher
         place_fits = omega (arith, L.usable.in_limit);
       }
 
-}
-
 -- from numbered indices xs, and what the recursion leaves of them
 module _ (points : List Float) (ls : ℕ) (indices₀ xs part links₀ links : List ℕ) (boxes₀ boxes : List Float) (r : ℕ)
     (p : Each (size points) xs) (e : length xs ≡ size points) (f : length part ≡ size points)
