@@ -26,7 +26,7 @@ use select::Axis;
 // ---- the box of a part
 
 // The lesser and the greater of two by the order of numbers alone: each one instruction, without a jump.
-// Kept: two functions that differ in a comparison; the edit smaller_turned is the one for the other.
+// Kept: two lines that differ in a comparison; std's `min` and `max` test for a NaN too, and were slower in the check.
 #[tactic(auto, unfolding(crate::specs::Steps::smaller))]
 fn smaller(a: f64, b: f64) -> f64
     ensures { result ≡ smaller a b }
@@ -154,7 +154,7 @@ fn put_link(links: &mut [u32], start: u32, end: u32, left: u32, right: u32)
 
 // ---- the recursion
 
-// Kept: three slices and no struct of them, here and above: C lends them so, and each half is cut from them anew.
+// Kept: three slices and no struct of them, here and below: C lends them so, and each half is cut from them anew.
 // The subtree over a part, from the front of the two node slices on: the parent, the left subtree, the right subtree.
 // Its first node is numbered `node`, its part starts at `start`. Returns how many nodes it has. The part's count falls.
 fn build_recursive(

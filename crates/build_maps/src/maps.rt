@@ -25,7 +25,7 @@ fn fill(text: &[u8], at: usize, points: &mut [f64])
     }
 }
 
-// The indices that stand in a part, in rising order.
+// The indices below n that stand in a part, in rising order.
 fn print_part(rt: &impl Print, part: &[u32], n: u32) -> io::Result<()> {
     for index in 0..n {
         if part.contains(&index) {

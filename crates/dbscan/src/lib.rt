@@ -39,6 +39,7 @@ fn judge(
 {
     let n = points.len() / 2;
     match BallTreeBuilder::new().plan(points, indices, boxes, links) {
+        // Kept: by number, as the rows' order is; the edit six_before_five turns it.
         Err(refusal) if refusal.number() < 5 => Err(refusal),
         _ if !(0.0 <= epsilon) => Err(Refusal::RadiusNotValid),
         Err(refusal) => Err(refusal),

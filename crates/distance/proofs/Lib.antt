@@ -8,7 +8,7 @@
 --   Corner    the far corner is never below the d2 of a point in the box
 --   Tight     the bound and the corner are each the d2 of a place in the box
 --   Same      d2 is the same either way
---   Squares   what d2 gives; the test of finite
+--   Squares   what d2 gives
 --   TotalKey  the order of the keys is totalOrder
 pub mod Finite
 pub mod Sign

@@ -132,5 +132,3 @@ d2_self x y f =
     ap (λ (z : Float). add binary64 z (leg y y)) (sq-sub_self x f.fx)
     ∙ ap (λ (z : Float). add binary64 (fin false 0 (pos 0)) z) (sq-sub_self y f.fy)
     ∙ (unfold add in refl)
-
--- ---- a test of finite: zero times it is a zero

@@ -28,6 +28,7 @@ use search::{Best, Damage, Query};
 use tree::Tree;
 
 // The nearest so far, in slices that have room for k of them.
+// Kept: two slices and a count: results go into lent memory, an index slice and a distance slice.
 #[derive(Drop)]
 struct Holding<'a> {
     indices: &'a mut [u32],

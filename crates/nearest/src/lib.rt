@@ -28,6 +28,7 @@ struct Closest {
 }
 
 // A point takes the place of the best so far, unless that one stands before it.
+// Kept: not by `is_before`: the edit higher_index turns the last comparison here.
 #[inline(always)]
 fn better(best: Best, point: Best) -> Best
     ensures { result ≡ better best point }
@@ -54,7 +55,7 @@ impl Query for Closest {
 
     ghost rules = { λ _. rules };
 
-    // It can take any number.
+    // As many as there can be.
     ghost room = { λ _. 4294967296 };
 
     #[inline(always)]

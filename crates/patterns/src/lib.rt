@@ -20,7 +20,7 @@ fn digit(c: u8) -> u64
 }
 
 /// The number that the 16 digits from a place on write; 0 where the text ends before.
-// Kept: 0 and no `Option`, as the programs compare it with what is recorded, where no such place stands.
+// Kept: 0 and no `Option`: the definition `word` of specs/ says 0.
 pub fn word(text: &[u8], at: usize) -> u64
     ensures { result ≡ word text.now at }
 {

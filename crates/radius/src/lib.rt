@@ -18,6 +18,7 @@ use search::{Damage, Query};
 use tree::Tree;
 
 // The points within a radius: how many were met, and the first of them, as many as the slice holds.
+// Kept: a slice and a count: results go into lent memory.
 #[derive(Drop)]
 struct Within<'a> {
     radius_sq: f64,
@@ -79,8 +80,8 @@ fn keep(out: &mut [u32], count: usize, is_hit: bool, index: u32) -> usize
     count + is_hit as usize
 }
 
-// Kept: a loop of its own, as in the other queries: one for all takes a closure for each point and is no shorter.
 // The points of a part, each tested; how many hits there are by then, which stay in a register meanwhile.
+// Kept: a loop of its own, as in the other queries: one for all takes a closure for each point and is no shorter.
 #[inline(always)]
 fn take_within(
     tree: &Tree,

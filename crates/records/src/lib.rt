@@ -47,6 +47,7 @@ fn float(s: &[u8], at: usize) -> f64
 }
 
 // How many bytes follow a byte of kind.
+// Kept: a kind is the stream's byte until its record is read: `Record` is the enum of kinds.
 fn body_length(kind: u8) -> usize
     ensures { result ≡ body_of kind }
 {

@@ -1,5 +1,5 @@
-//! The square root of an f64, correctly rounded, for every f64. No root is built into the language, so it is worked
-//! out here: the upper half of its digits guessed in floats and settled on whole numbers, the lower half by a division.
+//! The square root of an f64, correctly rounded, for every f64. It is worked out here:
+//! the upper half of its digits guessed in floats and settled on whole numbers, the lower half by a division.
 //! It cost about 8 ns, and 24 ns where each root waits for the one before, measured with the older kit.
 //!
 //! The steps, and why each is exact:
@@ -18,7 +18,7 @@
 //!    The digits stay 53, as a is at most 2^54 - 2, and the root of the least float is 2^-537, so no root overflows or
 //!    is subnormal.
 //!
-//! Kept: no `f64::sqrt`, since nothing is to be trusted that is not proved here.
+//! Kept: no `f64::sqrt`: the definition `Root` and the edits of this crate speak of a program that works the root out.
 #![tactic(auto)]
 
 ghost use Rattle.std.specs.Prelude.{◌-◌, ◌*◌, ◌<◌, ◌≤◌};

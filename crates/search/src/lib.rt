@@ -30,6 +30,7 @@ pub struct Best {
 
 impl Best {
     /// Whether this point stands before the other: by squared distance, then by index.
+    // Kept: not a derived order, since the edit higher_index turns its last comparison.
     #[inline]
     pub fn is_before(self, other: Best) -> bool
         ensures { result ≡ before self other }

@@ -17,6 +17,7 @@ use stream::{Map, Stop};
 const BUFFER: usize = 65536;
 
 // The bytes `used..have` of a buffer: they came, and are still to be taken.
+// Kept: a slice and two places: the memory is fixed.
 #[derive(Debug, Drop)]
 struct Input<'a> {
     bytes: &'a mut [u8],

@@ -14,7 +14,7 @@ ghost use Rattle.search.specs.Answer.{Answers};
 ghost use Rattle.records.specs.declared.Record.TheVariants.{Nearest as AskNearest, Label as AskLabel};
 ghost use Rattle.text.specs.Line.{Put};
 ghost use Rattle.stream.specs.Prints.{error, limit_points, Floats};
-ghost use Rattle.stream.specs.Feeding.{Kept, Replies, Stepped, FedBy, longest};
+ghost use Rattle.stream.specs.Feeding.{so_far, Ready, Kept, Replies, Stepped, FedBy, longest};
 ghost use Rattle.stream.specs.Printing.{PrintedBy, Roomy};
 ghost use Rattle.stream.specs.Asked.{Raising, Asking, Plain, Writes, found_text, Query, asked, letter_of, listed};
 
@@ -80,6 +80,7 @@ pub enum Printed {
 // ---- the points
 
 /// The points so far, in slices that the caller lends, and whether their tree stands beside them.
+// Kept: a slice and a count: points go into lent memory.
 #[derive(Debug, Drop)]
 pub struct Map<'a> {
     points: &'a mut [f64],
@@ -128,6 +129,43 @@ impl<'a> Map<'a> {
             links,
             fresh: false,
         }
+    }
+
+    /// Points that stand already, and their tree, where it is fresh. An inner function, as `new`.
+    pub fn resume(
+        points: &'a mut [f64],
+        count: usize,
+        indices: &'a mut [u32],
+        boxes: &'a mut [f64],
+        links: &'a mut [u32],
+        fresh: bool,
+    ) -> Self
+        requires ready { Ready points.old count indices.old boxes.old links.old fresh }
+        ensures points { result.points ≡ so_far points.old count }
+        ensures fresh { result.fresh ≡ fresh }
+    {
+        Map {
+            points,
+            count,
+            indices,
+            boxes,
+            links,
+            fresh,
+        }
+    }
+
+    /// The points so far, x and y in turn.
+    pub fn points(&self) -> &[f64]
+        ensures { result.now ≡ self.now.points }
+    {
+        &self.points[..2 * self.count]
+    }
+
+    /// Whether the tree of these points stands.
+    pub fn is_fresh(&self) -> bool
+        ensures { result ≡ self.now.fresh }
+    {
+        self.fresh
     }
 
     // Keeps a point after the others.

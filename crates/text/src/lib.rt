@@ -7,6 +7,7 @@ ghost use Rattle.text.specs.Line.{glyph_of, decimal, hexes, hit_line, hit_lines,
 ghost use Rattle.text.specs.Line.{Put};
 
 // The label of noise, which prints as `-`.
+// Kept: beside the one of `labels`: the edit noise_number changes it here.
 const NOISE: u32 = 4_294_967_295;
 
 fn glyph(d: u8) -> u8
@@ -17,6 +18,7 @@ fn glyph(d: u8) -> u8
 }
 
 /// A slice that is being written to.
+// Kept: a slice and a place: lines go into lent memory.
 #[derive(Drop)]
 pub struct Writer<'a> {
     pub out: &'a mut [u8],

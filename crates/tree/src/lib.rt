@@ -232,6 +232,7 @@ impl<'a> Tree<'a> {
     }
 
     /// What a sound node is: only its children are left to read. An inner function, as the next: a walk has tested the node.
+    // Kept: beside `kind` and `bounds`, which test what a walk has tested already.
     #[inline]
     pub fn known_kind(&self, node: u32) -> Kind
         requires { node * 4 + 4 ≤ length self.now.links }
