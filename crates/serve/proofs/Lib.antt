@@ -2,3 +2,4 @@
 pub mod Waiting
 pub mod Fed
 pub mod Serving
+pub mod Spending

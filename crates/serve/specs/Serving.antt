@@ -8,7 +8,11 @@
 --   Turns ..                         the same, and text was appended to the writer
 --   Ends left wrote wrote' p s       a text for s, with all that the reader had, was appended, and nothing else
 --   Turned .. on                     the stream goes on after such a turn, or has ended so
-use Rattle.std.specs.Prelude.{◌≡◌, ℕ, ◌<◌, Bool, true, false, List, [], ◌∷◌, ◌++◌, length, Option, None, Some, ⊤, IfSome, Float}
+--   Less left left' s s'             a turn that goes on took bytes, or read some: what waits, with twice what the reader has, is less
+--   Spends .. on                     the same of a turn that goes on
+--   Within left left' s s' n         after n turns it is less by n at least
+--   EndsSoon ..                      as Ends, where what the reader has fits the turns that are counted
+use Rattle.std.specs.Prelude.{◌≡◌, ℕ, ◌+◌, ◌*◌, ◌-◌, ◌^◌, ◌<◌, ◌≤◌, Bool, true, false, List, [], ◌∷◌, ◌++◌, length, Option, None, Some, ⊤, IfSome, Float}
 use Rattle.std.specs.Io.KnownBytes.{Appends, Consumes, IsAtEnd}
 use Rattle.stream.specs.Stream.{Output}
 use Rattle.serve.specs.Waiting.{longest_record}
@@ -47,3 +51,20 @@ Ends left wrote wrote' p s = IfSome left (λ xs. (text : List ℕ) × Output p (
 abbrev pub Turned : Option (List ℕ) → Option (List ℕ) → Option (List ℕ) → Option (List ℕ) → List Float → List ℕ → List Float → List ℕ → Bool → Type 0
 Turned left left' wrote wrote' p s p' s' true = Turns left left' wrote wrote' p s p' s'
 Turned left left' wrote wrote' p s p' s' false = Ends left wrote wrote' p s
+
+abbrev pub Less : Option (List ℕ) → Option (List ℕ) → List ℕ → List ℕ → Type 0
+Less None left' s s' = ⊤
+Less (Some xs) None s s' = ⊥
+Less (Some xs) (Some ys) s s' = 2 * length ys + length s' < 2 * length xs + length s
+
+abbrev pub Spends : Option (List ℕ) → Option (List ℕ) → List ℕ → List ℕ → Bool → Type 0
+Spends left left' s s' true = Less left left' s s'
+Spends left left' s s' false = ⊤
+
+abbrev pub Within : Option (List ℕ) → Option (List ℕ) → List ℕ → List ℕ → ℕ → Type 0
+Within None left' s s' n = ⊤
+Within (Some xs) None s s' n = ⊥
+Within (Some xs) (Some ys) s s' n = 2 * length ys + length s' + n ≤ 2 * length xs + length s
+
+abbrev pub EndsSoon : Option (List ℕ) → Option (List ℕ) → Option (List ℕ) → List Float → List ℕ → Type 0
+EndsSoon left wrote wrote' p s = IfSome left (λ xs. 2 * length xs + length s < 2 ^ 64 - 1 → (text : List ℕ) × Output p (s ++ xs) text × Appends wrote wrote' text)

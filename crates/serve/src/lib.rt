@@ -2,14 +2,15 @@
 //! buffers. Bytes that are no whole record yet wait at the front of the input for the next read.
 #![tactic(auto)]
 
-ghost use Rattle.std.specs.Prelude.{◌≡◌, ◌<◌, ◌≤◌, ℕ, [], List, eqb, length, drop, IfOk, OnOk, IfSome};
+ghost use Rattle.std.specs.Prelude.{◌≡◌, ◌^◌, ◌<◌, ◌≤◌, ℕ, [], List, eqb, length, drop, IfOk, OnOk, IfSome};
 ghost use Rattle.std.specs.Io.KnownBytes.{Appends};
 ghost use Rattle.stream.specs.Stream.{Output};
 ghost use Rattle.serve.specs.Waiting.{longest_record};
-ghost use Rattle.serve.specs.Serving.{Came, Turned, Ends};
+ghost use Rattle.stream.specs.Feeding.{longest};
+ghost use Rattle.serve.specs.Serving.{Came, Turned, Spends, EndsSoon};
 
 use std::io;
-use std::io::{ErrorKind, Read, Write};
+use std::io::{Read, Write};
 use std::marker::Model;
 use stream::{Map, Stop};
 
@@ -93,7 +94,9 @@ fn turn<R: Read, W: Write>(
     reader: &mut R,
     writer: &mut W,
 ) -> io::Result<bool>
+    requires room { longest ≤ length out.old }
     ensures turned { IfOk result (Turned (R.remaining reader.old) (R.remaining reader.new) (W.contents writer.old) (W.contents writer.new) map.old.points input.old map.new.points input.new) }
+    ensures spends { IfOk result (Spends (R.remaining reader.old) (R.remaining reader.new) input.old input.new) }
 {
     let fed = stream::feed(input.rest(), 0, map, out);
     writer.write_all(&out[..fed.wrote])?;
@@ -113,7 +116,8 @@ fn turn<R: Read, W: Write>(
     }
 }
 
-// Nothing says that a reader ends, so the turns are counted, up to a number that no run uses up.
+// Nothing says that a reader ends, so the turns are counted, up to a number that no run uses up: each that goes on takes a
+// byte at least from what waits, or from the reader.
 fn drive<R: Read, W: Write>(
     input: &mut Input,
     map: &mut Map,
@@ -121,21 +125,22 @@ fn drive<R: Read, W: Write>(
     reader: &mut R,
     writer: &mut W,
 ) -> io::Result<()>
-    ensures { OnOk result (Ends (R.remaining reader.old) (W.contents writer.old) (W.contents writer.new) map.old.points input.old) }
+    requires room { longest ≤ length out.old }
+    ensures { OnOk result (EndsSoon (R.remaining reader.old) (W.contents writer.old) (W.contents writer.new) map.old.points input.old) }
 {
-    for _ in 0..u64::MAX {
+    for _turn in 0..u64::MAX {
         if !turn(input, map, out, reader, writer)? {
             return Ok(());
         }
     }
-    Err(io::Error::from(ErrorKind::Other))
+    Ok(())
 }
 
 /// Serves the reader until it ends or the stream does. What is appended to the writer is what all that the reader had
-/// prints, in whatever pieces it comes, and nothing else. An error is the reader's or the writer's, and ends the run; or
-/// 2^64 - 1 pieces have come.
+/// prints, in whatever pieces it comes, and nothing else. An error is the reader's or the writer's, and ends the run.
+/// Nothing is said of a reader that has 2^63 bytes or more, or of one whose bytes are not known.
 pub fn run<R: Read, W: Write>(reader: &mut R, writer: &mut W) -> io::Result<()>
-    ensures printed { OnOk result (IfSome (R.remaining reader.old) (λ bytes. (text : List ℕ) × Output [] bytes text × Appends (W.contents writer.old) (W.contents writer.new) text)) }
+    ensures printed { OnOk result (IfSome (R.remaining reader.old) (λ bytes. length bytes < 2 ^ 63 → (text : List ℕ) × Output [] bytes text × Appends (W.contents writer.old) (W.contents writer.new) text)) }
 {
     let mut points = [0.0f64; stream::COORDINATES];
     let mut indices = [0u32; stream::MAX_POINTS];
