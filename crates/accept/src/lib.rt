@@ -18,6 +18,7 @@ mod extent;
 mod once;
 
 // From a node down: each half hands up the tight box of its points. None where a node is damaged, or its box does not hold them.
+// Kept: `ready` here and in `Extent`: it is tested once, and a type for it would need each method of `Tree` again.
 fn check_part(tree: &Tree, node: Node) -> Option<Extent>
     requires ready { Ready tree.now }
     requires some { node.start < node.end }

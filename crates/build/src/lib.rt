@@ -42,6 +42,7 @@ fn larger(a: f64, b: f64) -> f64
 }
 
 // The box of a part by the order of numbers, in which the two zeros are level, and the mean of its points.
+// Kept: `ready` here and below: it is said of the points and of a part, which is written between.
 #[tactic(auto, using(crate::proofs::Boxes::ready_index, crate::proofs::Boxes::ready_rest))]
 fn plain_box(points: &[f64], part: &[u32]) -> Bounds
     requires ready { Ready points.now part.now }

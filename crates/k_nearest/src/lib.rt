@@ -131,6 +131,7 @@ impl Query for Probe {
 }
 
 // The walk of the k nearest, into slices of k entries each.
+// Kept: `fits` here and below: the view of a tree has lists, which have no bound; each entry knows it of the slices.
 fn hold(tree: &Tree, place: Coord, indices: &mut [u32], d2s: &mut [f64]) -> Result<(), Damage>
     requires some { 0 < length indices.old }
     requires alike { length d2s.old ≡ length indices.old }

@@ -68,6 +68,7 @@ impl<'a> Query for Within<'a> {
 
 // A point is put where the next hit belongs, if there is room, and counted if it is a hit: else the next one takes its
 // place. Neither depends on a jump, which nobody could foretell.
+// Kept: that the count has room, here and below: it is the query's `room`, less what has been met of the part.
 #[inline(always)]
 fn keep(out: &mut [u32], count: usize, is_hit: bool, index: u32) -> usize
     requires { count < 18446744073709551615 }

@@ -103,6 +103,7 @@ impl<'a> Model for Map<'a> {
 }
 
 // The tree of some points, where no row of the refusals applies.
+// Kept: slices one by one, here and in `print_all`, as C lends them and the build takes them.
 fn grow(points: &[f64], indices: &mut [u32], boxes: &mut [f64], links: &mut [u32])
     requires { Raising points.now indices.old boxes.old links.old }
     ensures { Accepted (tree points.now indices.new boxes.new links.new) }
