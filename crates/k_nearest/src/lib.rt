@@ -57,6 +57,11 @@ impl<'a> Query for Holding<'a> {
         true
     }
 
+    #[inline(always)]
+    fn may_pass(&self) -> bool {
+        self.held == self.indices.len()
+    }
+
     // A node farther than the last of k held; before k are held, none.
     #[inline(always)]
     fn passes(&self, bound: f64) -> bool {
@@ -107,6 +112,10 @@ impl Query for Probe {
     ghost room = { λ _. 2 ^ 64 };
 
     fn is_nearer_first(&self) -> bool {
+        false
+    }
+
+    fn may_pass(&self) -> bool {
         false
     }
 

@@ -63,6 +63,12 @@ impl Query for Closest {
         true
     }
 
+    // While none is found, or only points infinitely far, no node is farther.
+    #[inline(always)]
+    fn may_pass(&self) -> bool {
+        self.best.d2 < f64::INFINITY
+    }
+
     #[inline(always)]
     fn passes(&self, bound: f64) -> bool {
         self.best.d2 < bound

@@ -15,7 +15,7 @@ is_nan-nan nan h = refl
 is_nan-nan (inf s) h = absurd (true≢false (sym h))
 is_nan-nan (fin s m e) h = absurd (true≢false (sym h))
 
-not_nan : (x : Float) → ne x x ≡ false → T (not (is_nan x))
+pub not_nan : (x : Float) → ne x x ≡ false → T (not (is_nan x))
 unfolding is_nan
 not_nan nan h = absurd (true≢false (sym nan_differs ∙ h))
 not_nan (inf s) h = tt
@@ -38,13 +38,13 @@ written_by_nan : to_bits binary64 nan ≡ 0x7ff8_0000_0000_0000
 unfolding to_bits
 written_by_nan = refl
 
-pattern_of_nan : (x : Float) → ne x x ≡ true → IsPattern x 0x7ff8_0000_0000_0000
+pub pattern_of_nan : (x : Float) → ne x x ≡ true → IsPattern x 0x7ff8_0000_0000_0000
 pattern_of_nan x h =
     let e = differs_from_itself x (subst T (sym h) tt) in
     record { reads = written_nan ∙ sym e; only = λ n. absurd (never (is_nan x) n (subst (λ (y : Float). T (is_nan y)) (sym e) nan_is)); of_nan = λ t. refl }
 
 -- and that of any other float
-pattern_of_number : (x : Float) → ne x x ≡ false → T (fits binary64 x) → IsPattern x (to_bits binary64 x)
+pub pattern_of_number : (x : Float) → ne x x ≡ false → T (fits binary64 x) → IsPattern x (to_bits binary64 x)
 pattern_of_number x h f = record { reads = of_bits-to_bits binary64 x f; only = λ n b l e. one b l e; of_nan = λ t. absurd (never (is_nan x) (not_nan x h) t) }
   where
     one : (b : ℕ) → b < 2 ^ 64 → of_bits binary64 b ≡ x → b ≡ to_bits binary64 x

@@ -20,23 +20,23 @@ from_on : (c n : ℕ) → n ≤ c → ltb c n ≡ false
 from_on c n h = is_false (ltb c n) (not_T (ltb c n) (λ (t : T (ltb c n)). not-le_of_lt (ltb→lt c n t) h))
 
 -- ---- the digit, by where the byte lies
-digit_low : (c : ℕ) → c < 48 → digit c ≡ 0
+pub digit_low : (c : ℕ) → c < 48 → digit c ≡ 0
 unfolding digit
 digit_low c h = rw (below c 48 h)
 
-digit-number : (c : ℕ) → 48 ≤ c → c < 58 → digit c ≡ c - 48
+pub digit-number : (c : ℕ) → 48 ≤ c → c < 58 → digit c ≡ c - 48
 unfolding digit
 digit-number c h k = rw (from_on c 48 h, below c 58 k)
 
-digit-between : (c : ℕ) → 58 ≤ c → c < 65 → digit c ≡ 0
+pub digit-between : (c : ℕ) → 58 ≤ c → c < 65 → digit c ≡ 0
 unfolding digit
 digit-between c h k = rw (from_on c 48 (omega arith), from_on c 58 h, below c 65 k)
 
-digit_letter : (c : ℕ) → 65 ≤ c → c < 71 → digit c ≡ c - 55
+pub digit_letter : (c : ℕ) → 65 ≤ c → c < 71 → digit c ≡ c - 55
 unfolding digit
 digit_letter c h k = rw (from_on c 48 (omega arith), from_on c 58 (omega arith), from_on c 65 h, below c 71 k)
 
-digit-high : (c : ℕ) → 71 ≤ c → digit c ≡ 0
+pub digit-high : (c : ℕ) → 71 ≤ c → digit c ≡ 0
 unfolding digit
 digit-high c h = rw (from_on c 48 (omega arith), from_on c 58 (omega arith), from_on c 65 (omega arith), from_on c 71 h)
 
@@ -87,6 +87,14 @@ unfolding word
 written_all {s} {p} {v} {k} w h l =
     let e : k ≡ 16 = omega (arith, w.turns) in
     w.is ∙ ap (value s p) e ∙ rw (is_true (leb (p + 16) (length s)) (le→leb (p + 16) (length s) l))
+
+pub word_lt : (s : List ℕ) (p : ℕ) → word s p < 2 ^ 64
+unfolding word
+word_lt s p = by_case (leb (p + 16) (length s))
+  where
+    by_case : (b : Bool) → cond b (value s p 16) 0 < 2 ^ 64
+    by_case true = value-lt s p 16
+    by_case false = omega arith
 
 -- where the text ends before
 pub word-short : (s : List ℕ) (p : ℕ) → length s < p + 16 → 0 ≡ word s p

@@ -4,13 +4,14 @@ use mathlib.Core.Path.{◌≡◌, refl, sym, ap, ◌∙◌, subst}
 use mathlib.Core.Logic.{inl, inr}
 use mathlib.Core.Bool.{Bool, true, false, ◌&&◌, cond}
 use mathlib.Core.List.{List, [], ◌++◌}
-use Prim.Native.Nat.{ℕ, zero, suc, ◌+◌, ◌%◌, ◌≤◌, ◌<◌}
+use Prim.Native.Nat.{ℕ, zero, suc, ◌+◌, ◌-◌, ◌%◌, ◌≤◌, ◌<◌}
 use native.Mathlib.Omega.{arith}
 use lib.Dec.{T, ltb, eqb}
 use lib.Ieee.{Float, binary64, of_bits, le}
 use lib.Ieee.Scale.{finite}
-use lib.ListN.{length, get_or, take, drop, replicate, length-append}
-use lib.Seq.{take_at, length-take-le}
+use lib.ListN.{length, get_or, take, drop, drop_of_length-le, replicate, length-append}
+use lib.Seq.{take_at, take-length, length-take-le}
+use borrow.Rule.Slice.PartMut.{put_mid, post_of}
 use borrow.Author.Tests.{eq-eqb, ne_eqb, ltb-false, eqb-false}
 use Rattle.distance.specs.Distance.{sq}
 use Rattle.distance.specs.declared.Coord.{Coord}
@@ -23,7 +24,7 @@ use Rattle.search.specs.Order.{point}
 use Rattle.search.specs.Refusal.{refusal, Told, told}
 use Rattle.search.specs.Result.{Roots, zeros, float_zeros}
 use Rattle.std.proofs.Common.{Result, Ok, Err}
-use Rattle.std.proofs.lemmas.List.{append_assoc, take-append-drop, drop-append-le}
+use Rattle.std.proofs.lemmas.List.{append_assoc, append-nil, take-append-drop, take-append-le, drop-append-le, length-drop, replicate-append-replicate}
 use Rattle.refusal.specs.Numbers.{number}
 use Rattle.refusal.specs.declared.Refusal.{Refusal}
 use Rattle.refusal.specs.declared.Refusal.TheVariants.{OddCoordinates, TooManyPoints, PointNotFinite, PlaceNotFinite, RadiusNotValid, IndicesTooShort, NodesTooShort, NoRoom, DamagedTree, UnknownRecord}
@@ -219,6 +220,25 @@ not_nine (NoRoom i) n z = omega arith
 not_nine DamagedTree n z = n refl
 not_nine UnknownRecord n z = omega arith
 
+-- first entries that are zeros, and zeros put behind them
+pub zeros_behind : (js rest new : List ℕ) (k : ℕ) → length js ≡ k → js ≡ zeros js → new ≡ zeros (take (length (js ++ rest) - k) (drop k (js ++ rest))) → put_mid k (length (js ++ rest) - k) (js ++ rest) new ≡ zeros (js ++ rest)
+zeros_behind js rest new k e z w =
+    ap (λ (l : List ℕ). l ++ (new ++ post_of k (length (js ++ rest) - k) (js ++ rest))) front
+    ∙ ap (λ (l : List ℕ). js ++ (new ++ l)) none
+    ∙ ap (λ (l : List ℕ). js ++ l) (append-nil new ∙ w ∙ ap (λ (n : ℕ). replicate n 0) many)
+    ∙ ap (λ (l : List ℕ). l ++ zeros rest) z
+    ∙ replicate-append-replicate (length js) (length rest) 0
+    ∙ ap (λ (n : ℕ). replicate n 0) (sym (length-append js rest))
+  where
+    front : take k (js ++ rest) ≡ js
+    front = take-append-le k js rest (omega arith) ∙ ap (λ (n : ℕ). take n js) (sym e) ∙ take-length js
+
+    none : post_of k (length (js ++ rest) - k) (js ++ rest) ≡ []
+    none = drop_of_length-le (drop k (js ++ rest)) {i = length (js ++ rest) - k} (omega (arith, length-drop k (js ++ rest)))
+
+    many : length (take (length (js ++ rest) - k) (drop k (js ++ rest))) ≡ length rest
+    many = length-take-le (length (js ++ rest) - k) (drop k (js ++ rest)) (omega (arith, length-drop k (js ++ rest))) ∙ omega (arith, length-append js rest)
+
 -- ---- both slices, by what the answer r is
 module _ (t : Tree) (q : Coord) (radius : Float) (room : ℕ) (is₀ js : List ℕ) (ds₀ : List Float) (inside : room ≤ length is₀) (r : Result ℕ Refusal) (A : Answered (reply t q radius) room (take room is₀) r js) where
   abbrev is : List ℕ
@@ -254,6 +274,13 @@ module _ (t : Tree) (q : Coord) (radius : Float) (room : ℕ) (is₀ js : List �
           each_root = subst (λ (l : List ℕ). Roots (squares t.points q l) rs) found.front R;
           are = ap (λ (k : ℕ). rs ++ drop k ds₀) (found.many ∙ sym (squares-length t.points q found.hits));
         }
+
+  -- what damage left of the first entries
+  pub front-zeros : r ≡ Err DamagedTree → length js ≡ length (take room is₀) → js ≡ zeros js
+  front-zeros e long =
+      let B = subst (λ (y : Result ℕ Refusal). Answered a room (take room is₀) y js) e A in
+      let d = damage-found a (reply_proper t q radius) room (take room is₀) js B in
+      subst (λ (b : Reply). js ≡ leaves b room (take room is₀)) d B.indices_are ∙ ap (λ (k : ℕ). replicate k 0) (sym long)
 
   pub in_room-damage : r ≡ Err DamagedTree → length js ≡ length (take room is₀) → (ks : List ℕ) (ds : List Float) → ks ≡ zeros is → ds ≡ float_zeros ds₀ → InRoom t.points q a room is₀ ds₀ (Err DamagedTree) ks ds
   in_room-damage e long ks ds z f =

@@ -45,6 +45,11 @@ impl<'a> Query for Within<'a> {
     }
 
     #[inline(always)]
+    fn may_pass(&self) -> bool {
+        true
+    }
+
+    #[inline(always)]
     fn passes(&self, bound: f64) -> bool {
         self.radius_sq < bound
     }
@@ -231,7 +236,8 @@ pub fn within_radius_capped(
         }
         Err(refusal) => {
             if refusal == Refusal::DamagedTree {
-                out_indices.fill(0);
+                // Those before stand at 0 by now.
+                out_indices[room..].fill(0);
                 out_distances.fill(0.0);
             }
         }

@@ -35,7 +35,7 @@ fn word(s: &[u8], at: usize) -> u32
     requires { at + 4 ≤ length s.now }
     ensures { result ≡ word_at s.now at }
 {
-    u32::from_le_bytes(*s[at..].first_chunk().unwrap())
+    u32::from_le_bytes([s[at], s[at + 1], s[at + 2], s[at + 3]])
 }
 
 // Eight as a float; any NaN's bits give the one NaN.
@@ -43,7 +43,17 @@ fn float(s: &[u8], at: usize) -> f64
     requires { at + 8 ≤ length s.now }
     ensures { result ≡ float_at s.now at }
 {
-    f64_from_bits_with_nan(u64::from_le_bytes(*s[at..].first_chunk().unwrap()))
+    let bytes = [
+        s[at],
+        s[at + 1],
+        s[at + 2],
+        s[at + 3],
+        s[at + 4],
+        s[at + 5],
+        s[at + 6],
+        s[at + 7],
+    ];
+    f64_from_bits_with_nan(u64::from_le_bytes(bytes))
 }
 
 // How many bytes follow a byte of kind.

@@ -1,6 +1,7 @@
 -- What inner functions cite of a branch: which child is visited first, and which entries each covers.
 --   in_turn z l r    the children l and r; l comes first where z is true
 --   first t q z l r  whether l comes first: where its centre is no farther from q, if z is true, else always
+--   left_of n l      the child l as the left one of node n, and right_of n r the child r as the right one: each with its half
 --   Turned t q z n l r T   T is the order of the children l and r of node n, and neither is damage
 --   Shares t n T     both have entries of the node n, fewer than it has, and no more together; and neither is damage
 --   OneDamaged t n l r     one of them is damage

@@ -3,7 +3,7 @@
 //! to it. The law that over an accepted tree the walk answers as a plain scan is in specs/ and proofs/.
 #![tactic(auto)]
 
-ghost use Rattle.std.specs.Prelude.{◌≡◌, true, false, cond, ℕ, ◌+◌, ◌-◌, ◌*◌, ◌<◌, ◌≤◌, length, OnOk, OnErr, IfOk};
+ghost use Rattle.std.specs.Prelude.{◌≡◌, true, false, cond, Float, ℕ, ◌+◌, ◌-◌, ◌*◌, ◌<◌, ◌≤◌, length, OnOk, OnErr, IfOk};
 ghost use Rattle.distance.specs.Distance.{bound};
 ghost use Rattle.tree.specs.Node.{bounds};
 ghost use Rattle.tree.specs.Inner.{sound};
@@ -77,6 +77,10 @@ pub trait Query {
     fn is_nearer_first(&self) -> bool
         ensures { result ≡ (rules (fixed self.now)).nearer_first };
 
+    /// Whether any node may be passed over by now. Where none may, no bound is worked out.
+    fn may_pass(&self) -> bool
+        ensures none { result ≡ false → (b : Float) → (rules (fixed self.now)).skip (state self.now) b ≡ false };
+
     /// Whether a node whose box is that far away, squared, is passed over.
     fn passes(&self, bound: f64) -> bool
         ensures { result ≡ (rules (fixed self.now)).skip (state self.now) bound };
@@ -96,6 +100,15 @@ fn node_bound(tree: &Tree, node: Node, from: Coord) -> f64
     ensures { result ≡ bound from (bounds tree.now.boxes node.number) }
 {
     distance::box_bound(from, tree.known_bounds(node.number))
+}
+
+// Whether a node that is whole is passed over.
+#[inline(always)]
+fn is_passed<Q: Query>(tree: &Tree, node: Node, from: Coord, query: &Q) -> bool
+    requires { node.number * 6 + 6 ≤ length tree.now.boxes }
+    ensures { result ≡ (Q.rules (Q.fixed query.now)).skip (Q.state query.now) (bound from (bounds tree.now.boxes node.number)) }
+{
+    query.may_pass() && query.passes(node_bound(tree, node, from))
 }
 
 // Whether the left of two children is visited first: where its centre is no farther.
@@ -188,13 +201,20 @@ fn visit<Q: Query>(
         return query.scan(tree, tree.part(node), from, tree.known_bounds(node.number));
     };
     let Turn { near, far } = children(tree, node, left, right, from, query)?;
-    let near_bound = node_bound(tree, near, from);
-    let far_bound = node_bound(tree, far, from);
-    if !query.passes(near_bound) {
+    if query.may_pass() {
+        let near_bound = node_bound(tree, near, from);
+        let far_bound = node_bound(tree, far, from);
+        if !query.passes(near_bound) {
+            visit(tree, x, y, near.number, near.start, near.end, query)?;
+        }
+        if query.passes(far_bound) {
+            return Ok(());
+        }
+    } else {
         visit(tree, x, y, near.number, near.start, near.end, query)?;
-    }
-    if query.passes(far_bound) {
-        return Ok(());
+        if is_passed(tree, far, from, query) {
+            return Ok(());
+        }
     }
     visit(tree, x, y, far.number, far.start, far.end, query)
 }
@@ -216,8 +236,7 @@ pub fn walk<Q: Query>(tree: &Tree, from: Coord, query: &mut Q) -> Result<(), Dam
     if !root_sound {
         return Err(Damage);
     }
-    let root_bound = node_bound(tree, root, from);
-    if query.passes(root_bound) {
+    if is_passed(tree, root, from, query) {
         return Ok(());
     }
     visit(

@@ -6,7 +6,7 @@
 //! kept until the next one comes. Whatever the pieces, they print what the whole prints.
 #![tactic(auto)]
 
-ghost use Rattle.std.specs.Prelude.{◌≡◌, true, ◌+◌, ◌≤◌, [], length, Ok};
+ghost use Rattle.std.specs.Prelude.{◌≡◌, true, false, ◌+◌, ◌≤◌, [], length, Ok};
 ghost use Rattle.distance.specs.declared.Coord.{Coord};
 ghost use Rattle.refusal.specs.Numbers.{number};
 ghost use Rattle.tree.specs.Accepted.{tree, count, Accepted};
@@ -102,6 +102,17 @@ impl<'a> Model for Map<'a> {
     ghost invariant = { λ m. Ready m.points.now m.count m.indices.now m.boxes.now m.links.now m.fresh };
 }
 
+/// What a map was lent, and the points so far in it: so many points, and their tree, where it is fresh.
+#[derive(Debug, Drop)]
+pub struct Parts<'a> {
+    pub points: &'a mut [f64],
+    pub count: usize,
+    pub indices: &'a mut [u32],
+    pub boxes: &'a mut [f64],
+    pub links: &'a mut [u32],
+    pub fresh: bool,
+}
+
 // The tree of some points, where no row of the refusals applies.
 // Kept: slices one by one, here and in `print_all`, as C lends them and the build takes them.
 fn grow(points: &[f64], indices: &mut [u32], boxes: &mut [f64], links: &mut [u32])
@@ -121,6 +132,7 @@ impl<'a> Map<'a> {
     ) -> Self
         requires roomy { Roomy (tree points.old indices.old boxes.old links.old) }
         ensures none { result.points ≡ [] }
+        ensures stale { result.fresh ≡ false }
     {
         Map {
             points,
@@ -169,6 +181,22 @@ impl<'a> Map<'a> {
         self.fresh
     }
 
+    /// The lent slices, given back with what they hold: so many points, and their tree, where it is fresh.
+    pub fn into_parts(self) -> Parts<'a>
+        ensures ready { Ready result.points.now result.count result.indices.now result.boxes.now result.links.now result.fresh }
+        ensures points { so_far result.points.now result.count ≡ self.entry.points }
+        ensures fresh { result.fresh ≡ self.entry.fresh }
+    {
+        Parts {
+            points: self.points,
+            count: self.count,
+            indices: self.indices,
+            boxes: self.boxes,
+            links: self.links,
+            fresh: self.fresh,
+        }
+    }
+
     // Keeps a point after the others.
     fn keep(&mut self, place: Coord) -> Result<(), Refusal>
         ensures kept { Kept self.old.points place.x place.y self.new.points result }
@@ -205,8 +233,8 @@ impl<'a> Map<'a> {
         }
     }
 
-    // The tree that stands.
-    fn tree(&self) -> Tree
+    /// The tree of these points, where it stands.
+    pub fn tree(&self) -> Tree
         requires fresh { self.now.fresh ≡ true }
         ensures points { result.points ≡ self.now.points }
         ensures few { count result ≤ limit_points }
@@ -328,7 +356,8 @@ fn put_found(
     }
 }
 
-// The lines of a query that lists hits.
+// The lines of a query that lists hits. Compiled into its caller, so that its slices take the stack of the labels' ones.
+#[inline(always)]
 fn say_hits(wanted: Wanted, tree: &Tree, place: Coord, lines: &mut Writer)
     requires { Asking tree.now lines.old.out.now lines.old.at }
     ensures same_reference { lines.new.out.ghost_name ≡ lines.old.out.ghost_name }

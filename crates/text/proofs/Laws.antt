@@ -5,7 +5,7 @@ use mathlib.Core.Path.{◌≡◌, refl, ap, sym, subst, ◌∙◌}
 use mathlib.Core.List.{List, [], ◌∷◌, ◌++◌, append_assoc}
 use mathlib.Core.Bool.{Bool, true, false, cond}
 use native.Mathlib.Omega.{arith}
-use native.Mathlib.Numerals.{add-one}
+use native.Mathlib.Numerals.{unary_clauses, add-one}
 use lib.ListN.{length, get_or, set, take, drop, length-append}
 use lib.Ieee.{Float, nan, binary64, to_bits}
 use lib.Seq.{sets, length-sets, drop-drop, get_or-take, length-take-le}
@@ -19,6 +19,12 @@ pub sets_append : (l : List ℕ) (i : ℕ) (vs ws : List ℕ) → sets (sets l i
 sets_append l i [] ws = ap (λ (k : ℕ). sets l k ws) (omega arith)
 sets_append l i (v ∷ vs) ws =
     ap (λ (k : ℕ). sets (sets (set l i v) (suc i) vs) k ws) (omega arith) ∙ sets_append (set l i v) (suc i) vs ws
+
+pub one : (l : List ℕ) (i a : ℕ) → Put l i (a ∷ []) (set l i a) (i + 1)
+one l i a = record { bytes = refl; past = refl }
+
+pub two : (l : List ℕ) (i a b : ℕ) → Put l i (a ∷ b ∷ []) (set (set l i a) (i + 1) b) (i + 2)
+two l i a b = record { bytes = simp unary_clauses; past = refl }
 
 -- one run after another is the run of both; a run leaves the slice as long as it was
 pub then : {a b d : List ℕ} {i j k : ℕ} {s t : List ℕ} → Put a i s b j → Put b j t d k → Put a i (s ++ t) d k
@@ -72,6 +78,17 @@ pub length-hexes : (k n : ℕ) → length (hexes k n) ≡ k
 unfolding hexes
 length-hexes zero n = refl
 length-hexes (suc k) n = omega (arith, length-append (hexes k (n / 16)) (glyph_of (n % 16) ∷ []), length-hexes k (n / 16))
+
+pub hex_step : {a b : List ℕ} {i j : ℕ} (k n g : ℕ) → (k ≡ 0 → ⊥) → Put a i (hexes (k - 1) (n / 16)) b j → g ≡ glyph_of (n % 16) → Put a i (hexes k n) (set b j g) (j + 1)
+unfolding hexes
+hex_step zero n g h p e = absurd (h refl)
+hex_step {a} {b} {i} {j} (suc k) n g h p e =
+    let d : suc k - 1 ≡ k = omega arith in
+    let q : Put a i (hexes k (n / 16)) b j = subst (λ (x : ℕ). Put a i (hexes x (n / 16)) b j) d p in
+    then q (named (ap (λ (x : ℕ). x ∷ []) e) (one b j g))
+
+pub decimal-put : {a b : List ℕ} {i j : ℕ} (n g : ℕ) → 10 ≤ n → n < 4294967296 → Put a i (decimal (n / 10)) b j → g ≡ glyph_of (n % 10) → Put a i (decimal n) (set b j g) (j + 1)
+decimal-put {a} {b} {i} {j} n g h k p e = named (sym (decimal_step n h k)) (then p (named (ap (λ (x : ℕ). x ∷ []) e) (one b j g)))
 
 -- one digit more
 pub hex_more : {a b d : List ℕ} {i j m : ℕ} (k n g : ℕ) → 0 < k → Put a i (hexes (k - 1) (n / 16)) b j → g ≡ glyph_of (n % 16) → Put b j (g ∷ []) d m → Put a i (hexes k n) d m

@@ -17,6 +17,34 @@ fn glyph(d: u8) -> u8
     if d < 10 { b'0' + d } else { b'A' + (d - 10) }
 }
 
+// The decimal digits of n, from a place on; answers the place past them. A place that is handed on stays in a register.
+// Kept: not `write!`, which answers a `fmt::Result`, where a line here cannot fail.
+fn put_decimal(out: &mut [u8], at: usize, n: u32) -> usize
+    requires { at + length (decimal n) ≤ length out.old }
+    ensures { Put out.old at (decimal n) out.new result }
+{
+    if n < 10 {
+        out[at] = glyph(n as u8);
+        return at + 1;
+    }
+    let next = put_decimal(out, at, n / 10);
+    out[next] = glyph((n % 10) as u8);
+    next + 1
+}
+
+// The last k hexadecimal digits of the bits, likewise.
+fn put_hex(out: &mut [u8], at: usize, bits: u64, k: usize) -> usize
+    requires { at + k ≤ length out.old }
+    ensures { Put out.old at (hexes k bits) out.new result }
+{
+    if k == 0 {
+        return at;
+    }
+    let next = put_hex(out, at, bits / 16, k - 1);
+    out[next] = glyph((bits % 16) as u8);
+    next + 1
+}
+
 /// A slice that is being written to.
 // Kept: a slice and a place: lines go into lent memory.
 #[derive(Drop)]
@@ -35,15 +63,6 @@ impl<'a> Writer<'a> {
         Writer { out, at }
     }
 
-    fn put(&mut self, byte: u8)
-        requires { self.old.at < length self.old.out.now }
-        ensures same_reference { self.new.out.ghost_name ≡ self.old.out.ghost_name }
-        ensures put { Put self.old.out.now self.old.at (byte ∷ []) self.new.out.now self.new.at }
-    {
-        self.out[self.at] = byte;
-        self.at += 1;
-    }
-
     fn put_all(&mut self, bytes: &[u8])
         requires room { self.old.at + length bytes.now ≤ length self.old.out.now }
         ensures same_reference { self.new.out.ghost_name ≡ self.old.out.ghost_name }
@@ -54,31 +73,6 @@ impl<'a> Writer<'a> {
         self.at = end;
     }
 
-    // The decimal digits of n.
-    // Kept: not `write!`, which answers a `fmt::Result`, where a line here cannot fail.
-    fn put_decimal(&mut self, n: u32)
-        requires room { self.old.at + length (decimal n) ≤ length self.old.out.now }
-        ensures same_reference { self.new.out.ghost_name ≡ self.old.out.ghost_name }
-        ensures put { Put self.old.out.now self.old.at (decimal n) self.new.out.now self.new.at }
-    {
-        if n >= 10 {
-            self.put_decimal(n / 10);
-        }
-        self.put(glyph((n % 10) as u8));
-    }
-
-    // The last k hexadecimal digits of the bits.
-    fn put_hex(&mut self, bits: u64, k: usize)
-        requires room { self.old.at + k ≤ length self.old.out.now }
-        ensures same_reference { self.new.out.ghost_name ≡ self.old.out.ghost_name }
-        ensures put { Put self.old.out.now self.old.at (hexes k bits) self.new.out.now self.new.at }
-    {
-        if k > 0 {
-            self.put_hex(bits / 16, k - 1);
-            self.put(glyph((bits % 16) as u8));
-        }
-    }
-
     /// `0 4014000000000000`
     pub fn put_hit(&mut self, index: u32, distance: f64)
         requires room { self.old.at + 28 ≤ length self.old.out.now }
@@ -86,10 +80,12 @@ impl<'a> Writer<'a> {
         ensures same_reference { self.new.out.ghost_name ≡ self.old.out.ghost_name }
         ensures put { Put self.old.out.now self.old.at (hit_line index distance) self.new.out.now self.new.at }
     {
-        self.put_decimal(index);
-        self.put(b' ');
-        self.put_hex(distance.to_bits(), 16);
-        self.put(b'\n');
+        let out = &mut *self.out;
+        let a = put_decimal(out, self.at, index);
+        out[a] = b' ';
+        let b = put_hex(out, a + 1, distance.to_bits(), 16);
+        out[b] = b'\n';
+        self.at = b + 1;
     }
 
     /// `N 0 4014000000000000`
@@ -118,10 +114,13 @@ impl<'a> Writer<'a> {
         ensures same_reference { self.new.out.ghost_name ≡ self.old.out.ghost_name }
         ensures put { Put self.old.out.now self.old.at (count_line letter n) self.new.out.now self.new.at }
     {
-        self.put(letter);
-        self.put(b' ');
-        self.put_decimal(n);
-        self.put(b'\n');
+        let out = &mut *self.out;
+        let at = self.at;
+        out[at] = letter;
+        out[at + 1] = b' ';
+        let a = put_decimal(out, at + 2, n);
+        out[a] = b'\n';
+        self.at = a + 1;
     }
 
     /// `2`, or `-` for noise
@@ -134,8 +133,10 @@ impl<'a> Writer<'a> {
             self.put_all(b"-\n");
             return;
         }
-        self.put_decimal(label);
-        self.put(b'\n');
+        let out = &mut *self.out;
+        let a = put_decimal(out, self.at, label);
+        out[a] = b'\n';
+        self.at = a + 1;
     }
 
     /// A line for each hit.

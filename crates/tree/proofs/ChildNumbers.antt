@@ -1,4 +1,4 @@
--- What two child numbers make of a node, by which of them are zero; and a branch is over two entries or more. By cases on the
+-- What two child numbers make of a node, where neither is zero; and a branch is over two entries or more. By cases on the
 -- numbers. Assumes nothing.
 use mathlib.Core.Path.{◌≡◌, refl}
 use mathlib.Core.Bool.{Bool, true, false, cond}

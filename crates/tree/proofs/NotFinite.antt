@@ -1,5 +1,5 @@
--- The least index of a point that is not finite: there is one such number at most, a search in rising order finds it, and where it
--- is n, all coordinates are finite. By comparing two of them, and by halving a position into a point and a coordinate. Assumes nothing.
+-- The least index of a point that is not finite: there is one such number at most, and where it is n, all coordinates are finite.
+-- By comparing two of them, and by halving a position into a point and a coordinate. Assumes nothing.
 use mathlib.Core.Path.{◌≡◌, refl, subst}
 use mathlib.Core.List.{List}
 use mathlib.Core.Bool.{Bool, true, false}

@@ -60,3 +60,12 @@ module _ (boxes : List Float) (links : List ℕ) (v a e : ℕ) (h : sound (kind 
 
   pub sound-known : kind boxes links v a e ≡ known links v
   sound-known = covered.1
+
+  whole : (leb (v * 6 + 6) (length boxes) ≡ true) × (leb (v * 4 + 4) (length links) ≡ true)
+  whole = both_true _ _ (both_true _ _ (both_true _ _ covered.0).0).0
+
+  pub sound-boxes : v * 6 + 6 ≤ length boxes
+  sound-boxes = leb-true (v * 6 + 6) (length boxes) whole.0
+
+  pub sound-links : v * 4 + 4 ≤ length links
+  sound-links = leb-true (v * 4 + 4) (length links) whole.1

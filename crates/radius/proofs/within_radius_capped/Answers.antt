@@ -7,7 +7,7 @@ use Rattle.refusal.specs.declared.Refusal.{Refusal}
 use Rattle.refusal.specs.declared.Refusal.TheVariants.{DamagedTree}
 use Rattle.tree.specs.Points.{size}
 use Rattle.radius.specs.Within.{reply, Answered, InRoom}
-use Rattle.radius.proofs.Answers.{hits-points, in_room-hits, in_room-damage, in_room-refused}
+use Rattle.radius.proofs.Answers.{hits-points, in_room-hits, front-zeros, zeros_behind, in_room-damage, in_room-refused}
 use Rattle.radius.proofs.within_radius_capped.Goals as goal
 use Rattle.radius.proofs.within_radius_capped.Goals.{After-within_radius_indices-answer}
 
@@ -44,7 +44,7 @@ returns-then-eq c =
     let a = c.args in
     let u = (goal.at.returns-then-eq c).After-within_radius_indices-answer in
     let d : c.in-Err.refusal ≡ DamagedTree = search (rules, c.if-eq.ensures) in
-    rw d (shortest u (in_room-damage a.tree.now a.place a.radius _ a.out_indices.now _ a.out_distances.now (inside u) _ (front u) (c.in-Err.is ∙ ap Err d) c.within_radius_indices-answer.auto.out_indices _ _ (search rules) (search rules)))
+    rw d (shortest u (in_room-damage a.tree.now a.place a.radius _ a.out_indices.now _ a.out_distances.now (inside u) _ (front u) (c.in-Err.is ∙ ap Err d) c.within_radius_indices-answer.auto.out_indices _ _ (zeros_behind _ _ _ _ (omega (arith, c.within_radius_indices-answer.auto.out_indices, length-take-le _ c.args.out_indices.now (inside u))) (front-zeros a.tree.now a.place a.radius _ a.out_indices.now _ a.out_distances.now (inside u) _ (front u) (c.in-Err.is ∙ ap Err d) c.within_radius_indices-answer.auto.out_indices) (c.fill.ensures.after (λ y e. e))) (search rules)))
 
 pub returns-else-eq : goal.returns-else-eq
 returns-else-eq c =

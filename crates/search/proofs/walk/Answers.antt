@@ -16,8 +16,8 @@ returns-then-not-root_sound-clause-walks g c =
     from-root T Q s _ (search rules)
     (at-damaged T Q 0 0 (count T) s (unsound _ (search rules)))
 
-pub returns-then-passes-clause-walks : goal.returns-then-passes-clause-walks
-returns-then-passes-clause-walks g c =
+pub returns-then-is_passed-clause-walks : goal.returns-then-is_passed-clause-walks
+returns-then-is_passed-clause-walks g c =
     let a = c.args in
     let T = a.tree.now in
     let R = g.Q.Query.rules (g.Q.Query.fixed a.query.now) in
@@ -25,7 +25,7 @@ returns-then-passes-clause-walks g c =
     let s = g.Q.Query.state a.query.now in
     from-root T Q s _ (search rules)
     (sound-skip T Q 0 0 (count T) s (rw (c.root-root.ensures, c.len-n.ensures) at (sym c.is_sound-root_sound.ensures ∙ c.if-not-root_sound.false)) c.requires.some
-    (rw (c.node_bound-root_bound.ensures, c.root-root.ensures) at (sym c.passes.ensures ∙ c.if-passes.true)))
+    (rw c.root-root.ensures at (sym c.is_passed.ensures ∙ c.if-is_passed.true)))
 
 pub returns-clause-walks : goal.returns-clause-walks
 returns-clause-walks g c =

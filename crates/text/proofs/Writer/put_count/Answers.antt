@@ -1,20 +1,21 @@
 -- `text::Writer::put_count` meets its contract: two bytes, a number and a byte. Assumes nothing.
-use Rattle.text.proofs.Laws.{then, kept, length-decimals}
+use lib.ListN.{length-set, set}
+use Prim.Native.Nat.{◌+◌}
+use Rattle.text.proofs.Laws.{one, two, then, kept, length-decimals}
 use native.Mathlib.Omega.{arith}
 use Rattle.text.proofs.Writer.put_count.Goals as goal
 
-pub put_decimal-requires : goal.put_decimal-requires
-put_decimal-requires c =
-    let p = c.put.ensures.put in
-    let q = c.put-2.ensures.put in
-    record { room = omega (arith, kept p, p.past, kept q, q.past, length-decimals 10 c.args.n) }
+pub put_decimal-a-requires : goal.put_decimal-a-requires
+put_decimal-a-requires c = simp length-set (omega (arith, length-decimals 10 c.args.n))
 
-pub put-requires-3 : goal.put-requires-3
-put-requires-3 c =
-    let p = c.put.ensures.put in
-    let q = c.put-2.ensures.put in
-    let r = c.put_decimal.ensures.put in
-    omega (arith, kept p, p.past, kept q, q.past, kept r, r.past, length-decimals 10 c.args.n)
+pub bounds-out-a : goal.bounds-out-a
+bounds-out-a c = omega (arith, kept c.put_decimal-a.ensures, c.put_decimal-a.ensures.past, length-decimals 10 c.args.n, length-set c.args.self.now.out.now c.args.self.now.at c.args.letter, length-set (set c.args.self.now.out.now c.args.self.now.at c.args.letter) (c.args.self.now.at + 1) 32)
+
+pub overflow_add-self : goal.overflow_add-self
+overflow_add-self c = omega (arith, kept c.put_decimal-a.ensures, c.put_decimal-a.ensures.past, length-decimals 10 c.args.n, length-set c.args.self.now.out.now c.args.self.now.at c.args.letter, length-set (set c.args.self.now.out.now c.args.self.now.at c.args.letter) (c.args.self.now.at + 1) 32)
 
 pub returns-clause-put : goal.returns-clause-put
-returns-clause-put c = then c.put.ensures.put (then c.put-2.ensures.put (then c.put_decimal.ensures.put c.put-3.ensures.put))
+returns-clause-put c =
+    let a = c.args in
+    let p = c.put_decimal-a in
+    then (two a.self.now.out.now a.self.now.at a.letter 32) (then p.ensures (one p.new.out p.result 10))

@@ -1,2 +1,0 @@
--- Laws that the proofs and the layers above cite.
-pub mod Laws

@@ -1,5 +1,0 @@
--- `text::Writer::put_decimal` meets its contract: by recursion on the number, a digit a call. Assumes nothing.
-use Rattle.text.proofs.Writer.+put_decimal.Given as goal
-
-abbrev pub decreases-put_decimal : goal.decreases-put_decimal
-decreases-put_decimal l = l.n
