@@ -79,17 +79,23 @@ pub enum Printed {
 
 // ---- the points
 
-/// The points so far, in slices that the caller lends, and whether their tree stands beside them.
+// What a map was lent, and the points so far in it: so many points, and their tree, where it is fresh. It has no model, so that
+// `feed_slices` can say what the slices hold afterwards.
 // Kept: a slice and a count: points go into lent memory.
 #[derive(Debug, Drop)]
-pub struct Map<'a> {
+struct Parts<'a> {
     points: &'a mut [f64],
     count: usize,
     indices: &'a mut [u32],
     boxes: &'a mut [f64],
     links: &'a mut [u32],
-    // Whether the tree is that of the points.
     fresh: bool,
+}
+
+/// The points so far, in slices that the caller lends, and whether their tree stands beside them.
+#[derive(Debug, Drop)]
+pub struct Map<'a> {
+    parts: Parts<'a>,
 }
 
 impl<'a> Model for Map<'a> {
@@ -97,20 +103,9 @@ impl<'a> Model for Map<'a> {
 
     ghost Value = { Map };
 
-    ghost view = { λ m. record { points = so_far m.points.now m.count; fresh = m.fresh } };
+    ghost view = { λ m. record { points = so_far m.parts.points.now m.parts.count; fresh = m.parts.fresh } };
 
-    ghost invariant = { λ m. Ready m.points.now m.count m.indices.now m.boxes.now m.links.now m.fresh };
-}
-
-/// What a map was lent, and the points so far in it: so many points, and their tree, where it is fresh.
-#[derive(Debug, Drop)]
-pub struct Parts<'a> {
-    pub points: &'a mut [f64],
-    pub count: usize,
-    pub indices: &'a mut [u32],
-    pub boxes: &'a mut [f64],
-    pub links: &'a mut [u32],
-    pub fresh: bool,
+    ghost invariant = { λ m. Ready m.parts.points.now m.parts.count m.parts.indices.now m.parts.boxes.now m.parts.links.now m.parts.fresh };
 }
 
 // The tree of some points, where no row of the refusals applies.
@@ -135,12 +130,14 @@ impl<'a> Map<'a> {
         ensures stale { result.fresh ≡ false }
     {
         Map {
-            points,
-            count: 0,
-            indices,
-            boxes,
-            links,
-            fresh: false,
+            parts: Parts {
+                points,
+                count: 0,
+                indices,
+                boxes,
+                links,
+                fresh: false,
+            },
         }
     }
 
@@ -158,12 +155,14 @@ impl<'a> Map<'a> {
         ensures fresh { result.fresh ≡ fresh }
     {
         Map {
-            points,
-            count,
-            indices,
-            boxes,
-            links,
-            fresh,
+            parts: Parts {
+                points,
+                count,
+                indices,
+                boxes,
+                links,
+                fresh,
+            },
         }
     }
 
@@ -171,35 +170,37 @@ impl<'a> Map<'a> {
     pub fn points(&self) -> &[f64]
         ensures { result.now ≡ self.now.points }
     {
-        &self.points[..2 * self.count]
+        &self.parts.points[..2 * self.parts.count]
     }
 
     /// Whether the tree of these points stands.
     pub fn is_fresh(&self) -> bool
         ensures { result ≡ self.now.fresh }
     {
-        self.fresh
+        self.parts.fresh
     }
 
-    /// The lent slices, given back with what they hold: so many points, and their tree, where it is fresh.
-    pub fn into_parts(self) -> Parts<'a>
-        ensures ready { Ready result.points.now result.count result.indices.now result.boxes.now result.links.now result.fresh }
-        ensures points { so_far result.points.now result.count ≡ self.entry.points }
-        ensures fresh { result.fresh ≡ self.entry.fresh }
+    /// The tree of these points, where it stands.
+    pub fn tree(&self) -> Tree
+        requires fresh { self.now.fresh ≡ true }
+        ensures points { result.points ≡ self.now.points }
+        ensures few { count result ≤ limit_points }
+        ensures stands { Accepted result }
     {
-        Parts {
-            points: self.points,
-            count: self.count,
-            indices: self.indices,
-            boxes: self.boxes,
-            links: self.links,
-            fresh: self.fresh,
-        }
+        self.parts.tree()
     }
+}
 
+impl<'a> Parts<'a> {
     // Keeps a point after the others.
     fn keep(&mut self, place: Coord) -> Result<(), Refusal>
-        ensures kept { Kept self.old.points place.x place.y self.new.points result }
+        requires ready { Ready self.old.points.now self.old.count self.old.indices.now self.old.boxes.now self.old.links.now self.old.fresh }
+        ensures ready { Ready self.new.points.now self.new.count self.new.indices.now self.new.boxes.now self.new.links.now self.new.fresh }
+        ensures kept { Kept (so_far self.old.points.now self.old.count) place.x place.y (so_far self.new.points.now self.new.count) result }
+        ensures same_points { self.new.points.ghost_name ≡ self.old.points.ghost_name }
+        ensures same_indices { self.new.indices.ghost_name ≡ self.old.indices.ghost_name }
+        ensures same_boxes { self.new.boxes.ghost_name ≡ self.old.boxes.ghost_name }
+        ensures same_links { self.new.links.ghost_name ≡ self.old.links.ghost_name }
     {
         if self.count >= MAX_POINTS {
             return Err(Refusal::TooManyPoints);
@@ -217,7 +218,14 @@ impl<'a> Map<'a> {
 
     // Builds the tree of the points, unless it stands.
     fn raise(&mut self)
-        ensures points { self.new.points ≡ self.old.points }
+        requires ready { Ready self.old.points.now self.old.count self.old.indices.now self.old.boxes.now self.old.links.now self.old.fresh }
+        ensures ready { Ready self.new.points.now self.new.count self.new.indices.now self.new.boxes.now self.new.links.now self.new.fresh }
+        ensures points { self.new.points.now ≡ self.old.points.now }
+        ensures count { self.new.count ≡ self.old.count }
+        ensures same_points { self.new.points.ghost_name ≡ self.old.points.ghost_name }
+        ensures same_indices { self.new.indices.ghost_name ≡ self.old.indices.ghost_name }
+        ensures same_boxes { self.new.boxes.ghost_name ≡ self.old.boxes.ghost_name }
+        ensures same_links { self.new.links.ghost_name ≡ self.old.links.ghost_name }
         ensures fresh { self.new.fresh ≡ true }
     {
         if !self.fresh {
@@ -233,10 +241,11 @@ impl<'a> Map<'a> {
         }
     }
 
-    /// The tree of these points, where it stands.
-    pub fn tree(&self) -> Tree
+    // The tree of the points, where it stands.
+    fn tree(&self) -> Tree
+        requires ready { Ready self.now.points.now self.now.count self.now.indices.now self.now.boxes.now self.now.links.now self.now.fresh }
         requires fresh { self.now.fresh ≡ true }
-        ensures points { result.points ≡ self.now.points }
+        ensures points { result.points ≡ so_far self.now.points.now self.now.count }
         ensures few { count result ≤ limit_points }
         ensures stands { Accepted result }
     {
@@ -246,9 +255,15 @@ impl<'a> Map<'a> {
 
     // Takes one record and writes its lines; whether the stream goes on.
     fn take(&mut self, what: Record, lines: &mut Writer) -> bool
+        requires ready { Ready self.old.points.now self.old.count self.old.indices.now self.old.boxes.now self.old.links.now self.old.fresh }
         requires room { lines.old.at + longest ≤ length lines.old.out.now }
+        ensures ready { Ready self.new.points.now self.new.count self.new.indices.now self.new.boxes.now self.new.links.now self.new.fresh }
+        ensures same_points { self.new.points.ghost_name ≡ self.old.points.ghost_name }
+        ensures same_indices { self.new.indices.ghost_name ≡ self.old.indices.ghost_name }
+        ensures same_boxes { self.new.boxes.ghost_name ≡ self.old.boxes.ghost_name }
+        ensures same_links { self.new.links.ghost_name ≡ self.old.links.ghost_name }
         ensures same_reference { lines.new.out.ghost_name ≡ lines.old.out.ghost_name }
-        ensures stepped { Stepped what self.old.points lines.old.out.now lines.old.at self.new.points lines.new.out.now lines.new.at result }
+        ensures stepped { Stepped what (so_far self.old.points.now self.old.count) lines.old.out.now lines.old.at (so_far self.new.points.now self.new.count) lines.new.out.now lines.new.at result }
     {
         match what {
             Record::Point(x, y) => {
@@ -421,9 +436,15 @@ fn reply(query: Record, tree: &Tree, lines: &mut Writer)
 
 // ---- the stream
 
-/// Takes the whole records of `input` from `from` on, as far as there is room in `out`, which it fills from its start.
-pub fn feed(input: &[u8], from: usize, map: &mut Map, out: &mut [u8]) -> Fed
-    ensures { FedBy input.now from map.old.points out.old map.new.points out.new result }
+// Takes the whole records of `input` from `from` on, over the parts of a map.
+fn feed_parts(input: &[u8], from: usize, parts: &mut Parts, out: &mut [u8]) -> Fed
+    requires ready { Ready parts.old.points.now parts.old.count parts.old.indices.now parts.old.boxes.now parts.old.links.now parts.old.fresh }
+    ensures ready { Ready parts.new.points.now parts.new.count parts.new.indices.now parts.new.boxes.now parts.new.links.now parts.new.fresh }
+    ensures fed { FedBy input.now from (so_far parts.old.points.now parts.old.count) out.old (so_far parts.new.points.now parts.new.count) out.new result }
+    ensures same_points { parts.new.points.ghost_name ≡ parts.old.points.ghost_name }
+    ensures same_indices { parts.new.indices.ghost_name ≡ parts.old.indices.ghost_name }
+    ensures same_boxes { parts.new.boxes.ghost_name ≡ parts.old.boxes.ghost_name }
+    ensures same_links { parts.new.links.ghost_name ≡ parts.old.links.ghost_name }
 {
     let mut lines = Writer::new(out, 0);
     let mut used = from;
@@ -436,7 +457,7 @@ pub fn feed(input: &[u8], from: usize, map: &mut Map, out: &mut [u8]) -> Fed
                 stop: Stop::Hungry,
             };
         };
-        let goes_on = map.take(what, &mut lines);
+        let goes_on = parts.take(what, &mut lines);
         used = next;
         if !goes_on {
             return Fed {
@@ -451,6 +472,42 @@ pub fn feed(input: &[u8], from: usize, map: &mut Map, out: &mut [u8]) -> Fed
         wrote: lines.at,
         stop: Stop::Full,
     }
+}
+
+/// Takes the whole records of `input` from `from` on, as far as there is room in `out`, which it fills from its start.
+pub fn feed(input: &[u8], from: usize, map: &mut Map, out: &mut [u8]) -> Fed
+    ensures { FedBy input.now from map.old.points out.old map.new.points out.new result }
+{
+    feed_parts(input, from, &mut map.parts, out)
+}
+
+/// The same over the slices themselves, for a caller that keeps them: how many points there are then, and whether their tree
+/// stands in the slices, come back beside it. An inner function, as `Map::resume`: it asks that the points stand.
+pub fn feed_slices(
+    input: &[u8],
+    from: usize,
+    points: &mut [f64],
+    count: usize,
+    indices: &mut [u32],
+    boxes: &mut [f64],
+    links: &mut [u32],
+    fresh: bool,
+    out: &mut [u8],
+) -> (Fed, usize, bool)
+    requires ready { Ready points.old count indices.old boxes.old links.old fresh }
+    ensures ready { Ready points.new result.1 indices.new boxes.new links.new result.2 }
+    ensures fed { FedBy input.now from (so_far points.old count) out.old (so_far points.new result.1) out.new result.0 }
+{
+    let mut parts = Parts {
+        points,
+        count,
+        indices,
+        boxes,
+        links,
+        fresh,
+    };
+    let fed = feed_parts(input, from, &mut parts, out);
+    (fed, parts.count, parts.fresh)
 }
 
 /// Prints the whole stream of `input` into `out`, from its start. Any slices do; points, indices, boxes and links are work,
